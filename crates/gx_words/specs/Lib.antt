@@ -1,0 +1,4 @@
+pub mod Causes
+pub mod Image
+pub mod Moments
+pub mod PageMap
