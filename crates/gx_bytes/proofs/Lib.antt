@@ -1,0 +1,4 @@
+pub mod BlankLemmas
+pub mod DayLemmas
+pub mod Spellings
+pub mod WholeLemmas
