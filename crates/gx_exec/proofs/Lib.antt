@@ -1,0 +1,5 @@
+pub mod TextFacts
+pub mod NumberFacts
+pub mod PlaceFacts
+pub mod RowFacts
+pub mod TokenFacts
