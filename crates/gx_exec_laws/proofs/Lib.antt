@@ -1,0 +1,2 @@
+pub mod LexemeFacts
+pub mod SayingFacts
