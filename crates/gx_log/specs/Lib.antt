@@ -1,0 +1,4 @@
+pub mod Broken
+pub mod Disks
+pub mod Places
+pub mod Records
