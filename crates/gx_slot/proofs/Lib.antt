@@ -1,0 +1,4 @@
+pub mod PartFacts
+pub mod PutFacts
+pub mod ReadFacts
+pub mod SlotFacts
