@@ -1,0 +1,4 @@
+pub mod Pairs
+pub mod SixteenBytes
+pub mod TextLemmas
+pub mod Years
