@@ -1,0 +1,4 @@
+pub mod BoundLemmas
+pub mod EncodingLemmas
+pub mod PrintLemmas
+pub mod TextLemmas

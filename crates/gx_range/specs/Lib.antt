@@ -1,0 +1,5 @@
+pub mod Values
+pub mod Bounds
+pub mod Texts
+pub mod Encodings
+pub mod Operators
