@@ -1,0 +1,4 @@
+mod SixteenBytes
+mod Slashes
+mod Masks
+mod TextLemmas
