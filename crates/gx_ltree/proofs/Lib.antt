@@ -1,0 +1,4 @@
+pub mod LabelLemmas
+pub mod TextLemmas
+pub mod Progress
+mod ListSteps

@@ -1,0 +1,50 @@
+//! The text of a path, which is its encoding too.
+
+ghost use Rattle.std.specs.Prelude.{◌≡◌, ℕ, List, ◌++◌, OnOk};
+ghost use Rattle.gx_ltree.specs.Path.{IsPath};
+ghost use Rattle.gx_ltree.specs.Text.{printed, dots, SpellsPath};
+
+use crate::path::Path;
+use gx_bytes::{Bytes, NoMemory};
+
+impl Path {
+    /// Appends the labels with dots between them.
+    pub fn print(&self, to: &mut Bytes) -> Result<(), NoMemory>
+        ensures { OnOk result (to.new ≡ to.old ++ printed self.now) }
+    {
+        print_labels(self.labels(), to)
+    }
+
+    /// Appends the bytes of the path in a row, which are its text.
+    pub fn encode(&self, to: &mut Bytes) -> Result<(), NoMemory>
+        ensures { OnOk result (to.new ≡ to.old ++ printed self.now) }
+    {
+        print_labels(self.labels(), to)
+    }
+}
+
+fn print_labels(labels: &[Bytes], to: &mut Bytes) -> Result<(), NoMemory>
+    ensures { OnOk result (to.new ≡ to.old ++ printed labels.now) }
+{
+    let [first, rest @ ..] = labels else {
+        return Ok(());
+    };
+    to.extend_from_slice(first.as_slice())?;
+    print_more(rest, to)
+}
+
+/// Appends the labels with a dot before each.
+fn print_more(labels: &[Bytes], to: &mut Bytes) -> Result<(), NoMemory>
+    ensures { OnOk result (to.new ≡ to.old ++ dots labels.now) }
+{
+    for label in labels {
+        to.push(b'.')?;
+        to.extend_from_slice(label.as_slice())?;
+    }
+    Ok(())
+}
+
+/// The printed text of a path spells it.
+pub fn printed_again()
+    ensures { (path : List (List ℕ)) → IsPath path → SpellsPath (printed path) path }
+{}
