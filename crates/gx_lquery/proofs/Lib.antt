@@ -1,0 +1,7 @@
+mod VariantLemmas
+mod RunLemmas
+mod RowLemmas
+mod Step
+mod Rows
+mod SplitLemmas
+mod TextLemmas
