@@ -1,0 +1,3 @@
+mod SequenceLemmas
+mod UnaryLemmas
+pub mod Totals
