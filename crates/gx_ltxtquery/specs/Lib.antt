@@ -1,0 +1,4 @@
+pub mod Formula
+pub mod Pieces
+pub mod Text
+pub mod Lexing
