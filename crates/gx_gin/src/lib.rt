@@ -1,0 +1,13 @@
+//! What a GIN operator class owes, as laws.
+//!
+//! A class takes a value apart into items, and says of a query which items it wants, which rows it then looks at, and what their items say
+//! of the query (PostgreSQL 16, chapter 70, "GIN Indexes").
+#![tactic(auto)]
+
+mod class;
+mod items;
+mod wanted;
+
+pub use class::GinClass;
+pub use items::Items;
+pub use wanted::{Mode, Wanted};
