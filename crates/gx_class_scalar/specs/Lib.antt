@@ -1,0 +1,7 @@
+pub mod Orders
+pub mod Keys
+pub mod Tests
+pub mod Laws
+pub mod Spellings
+pub mod Sorting
+pub mod Readings
