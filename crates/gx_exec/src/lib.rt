@@ -9,10 +9,8 @@ mod numbers;
 mod reply;
 mod scan;
 mod statement;
-mod steps;
 mod table;
 mod token;
 
 pub use engine::Engine;
 pub use reply::Reply;
-pub use steps::Steps;

@@ -1,1 +1,9 @@
 pub mod Lending
+pub mod Contents
+pub mod Databases
+pub mod Frees
+pub mod Memories
+pub mod Pages
+pub mod Rows
+pub mod Footprints
+pub mod Tables

@@ -12,7 +12,8 @@ ghost use Rattle.gx_run.specs.Replies.{replies, database_after, text_of, any_ref
 use crate::cut::first_piece;
 use crate::stop::Stop;
 use gx_disk::Host;
-use gx_exec::{Engine, Steps};
+use gx_exec::Engine;
+use gx_pages::Steps;
 use std::alloc::Global;
 use std::sync::ledger::Ledger;
 

@@ -4,8 +4,8 @@ ghost use Rattle.std.specs.Prelude.{◌≡◌, ◌<◌};
 
 use crate::run;
 use gx_disk::{Host, MemoryHost};
-use gx_exec::Steps;
 use gx_io::{Failed, MemorySource, Source};
+use gx_pages::Steps;
 use std::alloc::Global;
 use std::marker::Brand;
 use std::sync::ledger::{Blank, Ledger};

@@ -12,8 +12,8 @@ use crate::pieces::run_script;
 use crate::stop::Stop;
 use crate::take::{Ended, LIMIT, take_script};
 use gx_disk::Host;
-use gx_exec::Steps;
 use gx_io::Source;
+use gx_pages::Steps;
 use std::alloc::Global;
 use std::sync::ledger::Ledger;
 

@@ -5,8 +5,8 @@ ghost use Rattle.std.specs.Prelude.{◌≡◌, ◌≢◌, ◌⊎◌, ◌<◌, �
 ghost use Rattle.gx_run.specs.Words.{IsTry};
 
 use gx_disk::{FilesHost, Host};
-use gx_exec::Steps;
 use gx_io::{Source, StdSource};
+use gx_pages::Steps;
 use std::alloc::Global;
 use std::marker::Brand;
 use std::process::ExitCode;

@@ -1,0 +1,56 @@
+//! A list of rows by rising numbers.
+
+ghost use Rattle.std.specs.Prelude.{◌≡◌, [], ◌∷◌, ◌++◌, List, length, take, OnOk, OnErr};
+ghost use Rattle.gx_pages.specs.declared.row.RowRef.{RowRef};
+ghost use Rattle.gx_pages.specs.Rows.{AreBelow, IsRising};
+
+use crate::row::RowRef;
+use std::alloc::{AllocError, Global};
+use std::marker::Model;
+
+/// Rows by rising numbers.
+#[derive(Debug, Drop)]
+pub struct Bitmap {
+    rows: Vec<RowRef>,
+}
+
+impl Model for Bitmap {
+    ghost use Rattle.std.specs.Prelude.{List};
+    ghost use Rattle.gx_pages.specs.declared.row.RowRef.{RowRef};
+    ghost use Rattle.gx_pages.specs.Rows.{IsRising};
+
+    ghost Value = { List RowRef };
+
+    ghost view = { λ b. b.rows.items };
+
+    ghost invariant = { λ b. IsRising b.rows.items };
+}
+
+impl Bitmap {
+    /// No rows.
+    pub fn new(alloc: Global) -> Bitmap
+        ensures { result ≡ [] }
+    {
+        Bitmap {
+            rows: Vec::new(alloc),
+        }
+    }
+
+    /// The rows, by rising numbers.
+    pub fn as_slice(&self) -> &[RowRef]
+        ensures value { result.now ≡ self.now }
+        ensures rising { IsRising self.now }
+    {
+        self.rows.as_slice()
+    }
+
+    /// Adds a row, whose number is above all others.
+    pub fn push(&mut self, row: RowRef) -> Result<(), AllocError>
+        requires { AreBelow self.old row.number }
+        ensures ok { OnOk result (self.new ≡ self.old ++ row ∷ []) }
+        ensures err { OnErr result (self.new ≡ self.old) }
+    {
+        self.rows.push(row)?;
+        Ok(())
+    }
+}
