@@ -2,12 +2,12 @@
 use Rattle.std.proofs.Common.{◌≡◌, ◌≢◌, ℕ, ◌+◌, ◌*◌, ◌^◌, ◌<◌, ◌≤◌, zero, suc, List, [], ◌∷◌, ◌++◌, length, take, drop, replicate, slice_set, slice_index, Option, Some, None, IsSome, true, false, Result, Ok, Err, is_err, OnOk, OnErr, refl, sym, ◌∙◌, ap, subst, length-append, arith}
 use Rattle.std.proofs.lemmas.List.{append-nil}
 use Rattle.gx_bytes.specs.Fields.{le16, le64, of16, paste, length-le16}
-use Rattle.gx_slot.specs.Slots.{Slots, packed, taken, growth, joined, spelling, slot_of, slots_of, item_at, read, IsSlotPage, with_slot, with_item, GrowsBy}
+use Rattle.gx_slot.specs.Slots.{Slots, packed, taken, growth, joined, slot_of, slots_of, item_at, read, IsSlotPage, with_item, GrowsBy}
 use Rattle.gx_slot.proofs.PartFacts.{paste_part}
 use Rattle.gx_slot.proofs.SlotFacts.{is_read}
 use Rattle.gx_slot.proofs.PutFacts.{Written, written, replicate-add, zero_field}
 
-length-slots_of : (page : List ℕ) (n at : ℕ) → length (slots_of page n at) ≡ n
+pub length-slots_of : (page : List ℕ) (n at : ℕ) → length (slots_of page n at) ≡ n
 length-slots_of page zero at = refl
 length-slots_of page (suc n) at = ap (λ (k : ℕ). suc k) (length-slots_of page n (at + 4))
 
@@ -139,19 +139,6 @@ too_many page kind l = λ h.
     let n = ap (λ (s : Slots). length s.items) r in
     let f = h.2.room in
     absurd (omega arith)
-
-pub too_long : (page : List ℕ) (kind k : ℕ) → length (read page).items ≤ k → 8176 < taken (slice_set (read page).items k None) → ¬ IsSlotPage page kind
-too_long page kind k b l = λ h.
-    let r = is_read page h.0 h.1 h.2 in
-    let t : taken (slice_set (read page).items k None) ≡ taken h.0.items = ap (λ (xs : List (Option (List ℕ))). taken xs) (set_past (read page).items k None b) ∙ ap (λ (s : Slots). taken s.items) r in
-    let f = h.2.room in
-    absurd (omega arith)
-
-pub unlike : (page : List ℕ) (kind k : ℕ) (s : Slots) → length (read page).items ≤ k → s ≡ with_slot (read page) k None → (page ≡ spelling s → ⊥) → ¬ IsSlotPage page kind
-unlike page kind k s b e n = λ h.
-    let r = is_read page h.0 h.1 h.2 in
-    let t : with_slot (read page) k None ≡ read page = ap (λ (xs : List (Option (List ℕ))). record (read page) { items = xs }) (set_past (read page).items k None b) in
-    n (h.1 ∙ ap (λ (x : Slots). spelling x) (sym (e ∙ t ∙ r)))
 
 pub err_part : {T E P : Type 0} (r : Result T E) → is_err r ≡ true → OnErr r P → P
 err_part (Ok x) e h = cc

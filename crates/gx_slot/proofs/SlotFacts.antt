@@ -11,10 +11,10 @@ field : (page xs zs : List ℕ) (n at : ℕ) → page ≡ xs ++ (le16 n ++ zs) �
 field page xs zs n at e l f =
     ap (λ (p : List ℕ). of16 (take 2 (drop at p))) e ∙ ap (λ (b : List ℕ). of16 b) (read_mid xs (le16 n) zs at 2 l (length-le16 n)) ∙ of16-le16 n f
 
-empty_slot : (page : List ℕ) (at from : ℕ) → of16 (take 2 (drop at page)) ≡ from → from ≡ 0 → slot_of page at ≡ None
+pub empty_slot : (page : List ℕ) (at from : ℕ) → of16 (take 2 (drop at page)) ≡ from → from ≡ 0 → slot_of page at ≡ None
 empty_slot page at from e z = let f : of16 (take 2 (drop at page)) ≡ 0 = e ∙ z in rw f refl
 
-full_slot : (page bytes : List ℕ) (at from n : ℕ) → of16 (take 2 (drop at page)) ≡ from → of16 (take 2 (drop (at + 2) page)) ≡ n → 0 < from → take n (drop from page) ≡ bytes → slot_of page at ≡ Some bytes
+pub full_slot : (page bytes : List ℕ) (at from n : ℕ) → of16 (take 2 (drop at page)) ≡ from → of16 (take 2 (drop (at + 2) page)) ≡ n → 0 < from → take n (drop from page) ≡ bytes → slot_of page at ≡ Some bytes
 full_slot page bytes at from n e f l b =
     let z : (from == 0) ≡ false = grind (arith, nat_tests) in
     rw (e, f, z, b) refl

@@ -2,7 +2,7 @@
 
 ghost use Rattle.std.specs.Prelude.{◌≡◌, ℕ, ◌+◌, ◌-◌, ◌*◌, ◌^◌, ◌<◌, ◌≤◌, [], length, take, drop, replicate, slice_set, None, Some, OnOk, OnErr, IfOk, IfErr};
 ghost use Rattle.std.specs.Option.{option_map};
-ghost use Rattle.gx_bytes.specs.Fields.{of16, of64, paste};
+ghost use Rattle.gx_bytes.specs.Fields.{le16, le64, of16, of64, paste};
 ghost use Rattle.gx_slot.specs.Slots.{IsSpelled, growth, item_at, packed, read, slot_of, spelling, taken, with_item};
 
 use gx_bytes::{get_u16, get_u64, put_u16, put_u64};
@@ -43,7 +43,8 @@ fn start_of(page: &[u8]) -> u16
 /// The number of the next page, or 0.
 pub fn next_of(page: &[u8]) -> u64
     requires { length page.now ≡ 8192 }
-    ensures { result ≡ (read page.now).next }
+    ensures next { result ≡ (read page.now).next }
+    ensures bytes { take 8 (drop 8 page.now) ≡ le64 result }
 {
     match get_u64(page, 8) {
         Some(next) => next,
@@ -51,10 +52,11 @@ pub fn next_of(page: &[u8]) -> u64
     }
 }
 
-fn field_at(page: &[u8], at: usize) -> usize
+pub fn field_at(page: &[u8], at: usize) -> usize
     requires len { length page.now ≡ 8192 }
     requires within { at + 2 ≤ 8192 }
     ensures field { result ≡ of16 (take 2 (drop at page.now)) }
+    ensures bytes { take 2 (drop at page.now) ≡ le16 result }
     ensures small { result < 2 ^ 16 }
 {
     match get_u16(page, at) {
@@ -159,7 +161,8 @@ pub fn put_next(page: &mut [u8], next: u64)
 /// How many slots the page is read as.
 pub fn read_count(page: &[u8]) -> u16
     requires { length page.now ≡ 8192 }
-    ensures { result ≡ length (read page.now).items }
+    ensures count { result ≡ length (read page.now).items }
+    ensures bytes { take 2 (drop 2 page.now) ≡ le16 result }
 {
     field_at(page, 2) as u16
 }

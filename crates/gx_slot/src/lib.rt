@@ -1,6 +1,7 @@
 //! Slot pages: a page as a list of items.
 #![tactic(auto)]
 
+mod checking;
 mod law;
 mod layout;
 mod slot_page;

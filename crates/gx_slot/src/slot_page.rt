@@ -1,9 +1,10 @@
 //! A page as a list of items.
 
-ghost use Rattle.std.specs.Prelude.{◌≡◌, ℕ, ◌+◌, ◌<◌, ◌≤◌, [], length, None, Some, IsSome, IsTrue, ◌↔◌, slice_set, IfOk, IfErr, IfSome, IfNone, OnOk, OnErr};
+ghost use Rattle.std.specs.Prelude.{◌≡◌, ℕ, ◌+◌, ◌<◌, ◌≤◌, [], length, None, Some, IsSome, slice_set, IfOk, IfErr, IfSome, IfNone, OnOk, OnErr};
 ghost use Rattle.std.specs.Option.{option_map};
 ghost use Rattle.gx_slot.specs.Slots.{Slots, Fits, GrowsBy, IsBroken, IsSlotPage, growth, item_at, read, spelling, taken, with_item, with_slot};
 
+use crate::checking::is_spelled;
 use crate::layout::{
     NoRoom, add_empty, add_item, begin, count_of, free_of, item_of, next_of, part_at, put_next,
     read_count,
@@ -63,27 +64,16 @@ impl SlotPage {
                 found: count,
             });
         }
-        let Some(slots) = rebuilt(bytes, u16::MAX, None) else {
-            return Err(PageError::Broken {
-                page: number,
-                expected: 1,
-                found: 0,
-            });
-        };
-        if !slots.is_spelled_by(bytes) {
+        if !is_spelled(bytes) {
             return Err(PageError::Broken {
                 page: number,
                 expected: 1,
                 found: 0,
             });
         }
-        Ok(slots)
-    }
-
-    fn is_spelled_by(&self, bytes: &[u8]) -> bool
-        ensures { IsTrue result ↔ (bytes.now ≡ spelling self.now) }
-    {
-        self.page().bytes() == bytes
+        let mut copy = Page::zero();
+        copy.bytes_mut().copy_from_slice(bytes);
+        Ok(SlotPage { page: copy })
     }
 
     /// The page's bytes.

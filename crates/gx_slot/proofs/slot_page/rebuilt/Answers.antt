@@ -5,7 +5,7 @@ use Rattle.gx_slot.proofs.ReadFacts as facts
 use Rattle.gx_slot.proofs.slot_page.rebuilt.Goals as goal
 
 pub loop-slot-init : goal.loop-slot-init
-loop-slot-init c = facts.begun_is c.args.page.now c.new-slots.result c.set_next.new.self c.next_of.result c.new-slots.ensures c.next_of.ensures c.set_next.ensures
+loop-slot-init c = facts.begun_is c.args.page.now c.new-slots.result c.set_next.new.self c.next_of.result c.new-slots.ensures c.next_of.ensures.next c.set_next.ensures
 
 pub returns-then-is_err-clause-none : goal.returns-then-is_err-clause-none
 returns-then-is_err-clause-none c =
