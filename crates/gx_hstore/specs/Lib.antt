@@ -1,0 +1,5 @@
+pub mod Encoding
+pub mod Map
+pub mod Printing
+pub mod Steps
+pub mod Text

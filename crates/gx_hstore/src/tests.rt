@@ -1,0 +1,175 @@
+//! Worked texts, boundary values, and each call once.
+
+use crate::Hstore;
+use gx_bytes::{Bytes, NoMemory, ValueError};
+use std::alloc::Global;
+use std::test::Fail;
+
+fn printed(alloc: Global, hstore: &Hstore) -> Result<Bytes, NoMemory> {
+    let mut text = Bytes::new(alloc);
+    hstore.print(&mut text)?;
+    Ok(text)
+}
+
+fn encoded(alloc: Global, hstore: &Hstore) -> Result<Bytes, NoMemory> {
+    let mut bytes = Bytes::new(alloc);
+    hstore.encode(&mut bytes)?;
+    Ok(bytes)
+}
+
+#[test]
+fn texts_and_their_printed_form(rt: HostRuntime) -> Result<(), Fail> {
+    let rows = [
+        ("", ""),
+        ("bb=>1,a=>2, c => 3", r#""a"=>"2", "c"=>"3", "bb"=>"1""#),
+        (r#""a b"=>"c,d""#, r#""a b"=>"c,d""#),
+        (r#"""=>"""#, r#"""=>"""#),
+        (r#"k=>NuLL, l=>"null""#, r#""k"=>NULL, "l"=>"null""#),
+        (r"k=>nu\ll", r#""k"=>NULL"#),
+        (r"k=>null\ ", r#""k"=>"null ""#),
+        ("null=>1", r#""null"=>"1""#),
+        (r"a\ b=>c\,d", r#""a b"=>"c,d""#),
+        (r#""q\"r"=>"s\\t""#, r#""q\"r"=>"s\\t""#),
+        (r#""\é"=>\=\>"#, r#""é"=>"=>""#),
+        ("a=>1,a=>2", r#""a"=>"1""#),
+        (r#""a"=>1,\a=>null,a=>3"#, r#""a"=>"1""#),
+        (
+            r#"guest=>"Ada L.", vip=>null, vip=>2,"#,
+            r#""vip"=>NULL, "guest"=>"Ada L.""#,
+        ),
+        ("a=>1,", r#""a"=>"1""#),
+        ("\t\r\n\x0c a => 1 , \n", r#""a"=>"1""#),
+        ("é=>x,zz=>y", r#""zz"=>"y", "é"=>"x""#),
+        ("\x0b=>a\x0b", "\"\x0b\"=>\"a\x0b\""),
+    ];
+    for (text, want) in rows {
+        let hstore = Hstore::read(rt.alloc(), text)?;
+        let found = printed(rt.alloc(), &hstore)?;
+        assert!(rt; found.as_slice() == want.as_bytes(), "at {text}");
+        let again = Hstore::read(rt.alloc(), want)?;
+        assert!(rt;
+            again.contains(&hstore) && hstore.contains(&again),
+            "at {text}"
+        );
+    }
+    Ok(())
+}
+
+#[test]
+fn texts_that_are_refused(rt: HostRuntime) -> Result<(), Fail> {
+    let texts = [
+        " ",
+        ",",
+        "a",
+        "a=>",
+        "=>1",
+        "a=1",
+        "a= >1",
+        "a=>b c",
+        "a=>1 b=>2",
+        "a=>1,,b=>2",
+        "a=>1,,",
+        ",a=>1",
+        "\"a=>1",
+        "a=>1=>2",
+        "a=>1\"b\"",
+        "a\"b\"=>1",
+        "\"a\"b=>1",
+        "a=>1\\",
+        "a=>\"1\\",
+        "a=>\"1\\\"",
+        "\\",
+        "a>1",
+        "a=>>1",
+    ];
+    for text in texts {
+        assert!(rt;
+            Hstore::read(rt.alloc(), text).err() == Some(ValueError::NoValue),
+            "at {text}"
+        );
+    }
+    Ok(())
+}
+
+#[test]
+fn keys_and_maps_that_are_contained(rt: HostRuntime) -> Result<(), Fail> {
+    // Whether the first map contains the second one.
+    let rows = [
+        ("a=>1,b=>NULL", "a=>1", true),
+        ("a=>1,b=>NULL", "b=>NULL", true),
+        ("a=>1,b=>NULL", "a=>NULL", false),
+        ("a=>1,b=>NULL", "a=>2", false),
+        ("a=>1,b=>NULL", "", true),
+        ("a=>1,b=>NULL", "b=>NULL,a=>1", true),
+        ("a=>1,b=>NULL", "a=>1,c=>1", false),
+        (r#"a=>"NULL""#, "a=>NULL", false),
+        ("a=>NULL", r#"a=>"NULL""#, false),
+        ("a=>NULL", r#"a=>"""#, false),
+        ("aa=>1,b=>2,c=>3", "aa=>1,c=>3", true),
+        ("", "a=>1", false),
+        ("", "", true),
+    ];
+    for (left, right, contained) in rows {
+        let a = Hstore::read(rt.alloc(), left)?;
+        let b = Hstore::read(rt.alloc(), right)?;
+        assert!(rt; a.contains(&b) == contained, "{left} and {right}");
+    }
+    let hstore = Hstore::read(rt.alloc(), "aa=>1,b=>NULL,\"\"=>2")?;
+    for (key, there) in [
+        ("aa", true),
+        ("b", true),
+        ("", true),
+        ("a", false),
+        ("bb", false),
+    ] {
+        assert!(rt; hstore.has(key.as_bytes()) == there, "at {key}");
+    }
+    Ok(())
+}
+
+#[test]
+fn pairs_in_printed_order(rt: HostRuntime) -> Result<(), Fail> {
+    let hstore = Hstore::read(rt.alloc(), "bb=>1, z=>NULL, a=>2")?;
+    assert_eq!(rt; hstore.count(), 3);
+    assert!(rt; hstore.pair(0) == Some((b"a".as_slice(), Some(b"2".as_slice()))));
+    assert!(rt; hstore.pair(1) == Some((b"z".as_slice(), None)));
+    assert!(rt; hstore.pair(2) == Some((b"bb".as_slice(), Some(b"1".as_slice()))));
+    assert!(rt; hstore.pair(3).is_none());
+    Ok(())
+}
+
+#[test]
+fn bytes_in_a_row(rt: HostRuntime) -> Result<(), Fail> {
+    let rows: [(&str, &[u8]); 4] = [
+        ("", b""),
+        ("a=>NULL", b"\x01a\x00"),
+        ("bb=>1,a=>\"\"", b"\x01a\x01\x00\x02bb\x01\x011"),
+        ("\"\"=>é", b"\x00\x01\x02\xc3\xa9"),
+    ];
+    for (text, want) in rows {
+        let hstore = Hstore::read(rt.alloc(), text)?;
+        let bytes = encoded(rt.alloc(), &hstore)?;
+        assert!(rt; bytes.as_slice() == want, "at {text}");
+        let again = Hstore::decode(rt.alloc(), want)?.ok_or("no map")?;
+        assert!(rt;
+            again.contains(&hstore) && again.count() == hstore.count(),
+            "at {text}"
+        );
+    }
+    // Broken off, no byte of a value, keys that don't rise, no UTF-8, and a longer spelling of a length.
+    let others: [&[u8]; 9] = [
+        b"\x01",
+        b"\x01a",
+        b"\x01a\x02",
+        b"\x01a\x01\x02b",
+        b"\x01a\x00\x01a\x00",
+        b"\x02aa\x00\x01b\x00",
+        b"\x01\xff\x00",
+        b"\x01a\x01\x01\xc3",
+        b"\x81\x00a\x00",
+    ];
+    for bytes in others {
+        assert!(rt; Hstore::decode(rt.alloc(), bytes)?.is_none());
+    }
+    Ok(())
+}
