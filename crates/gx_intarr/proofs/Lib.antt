@@ -1,0 +1,11 @@
+pub mod RunLemmas
+pub mod ElementLemmas
+pub mod TextLemmas
+pub mod ArrayLemmas
+pub mod NumberLemmas
+pub mod EncodingLemmas
+pub mod PrintLemmas
+pub mod DigitLemmas
+mod PieceLemmas
+mod StandLemmas
+mod QueryLemmas

@@ -1,0 +1,75 @@
+//! An array of int4.
+
+ghost use Rattle.std.specs.Prelude.{◌≡◌, ℤ, List, Contains, IsTrue, ◌↔◌, IfOk};
+ghost use Rattle.gx_intarr.specs.Arrays.{IsSortedCopy, Overlap, ContainsEach};
+
+use gx_bytes::NoMemory;
+use std::alloc::Global;
+use std::marker::Model;
+
+/// A list of numbers. The allocator that it was made with stays with it.
+#[derive(Debug, Drop)]
+pub struct IntArray {
+    items: Vec<i32>,
+    /// The same numbers in rising order, for look-ups.
+    sorted: Vec<i32>,
+}
+
+impl Model for IntArray {
+    ghost Value = { List ℤ };
+
+    ghost view = { λ a. a.items.items };
+
+    ghost invariant = { λ a. IsSortedCopy a.items.items a.sorted.items };
+}
+
+impl IntArray {
+    /// The array with these elements.
+    pub fn from_items(alloc: Global, items: Vec<i32>) -> Result<IntArray, NoMemory>
+        ensures { IfOk result (λ array. array ≡ items.items) }
+    {
+        let mut sorted = Vec::from_slice(alloc, items.as_slice())?;
+        sorted.sort_unstable();
+        Ok(IntArray { items, sorted })
+    }
+
+    /// The elements in order, each as often as it stands there.
+    pub fn items(&self) -> &[i32]
+        ensures { result.now ≡ self.now }
+    {
+        self.items.as_slice()
+    }
+
+    /// Whether the number is an element. The work grows with the logarithm of the array's length.
+    pub(crate) fn has(&self, number: &i32) -> bool
+        ensures { IsTrue result ↔ Contains self.now number.now }
+    {
+        self.sorted.binary_search(number).is_ok()
+    }
+
+    /// Whether some number is an element of both (`&&`).
+    pub fn overlaps(&self, other: &IntArray) -> bool
+        ensures { IsTrue result ↔ Overlap self.now other.now }
+    {
+        other.items().iter().any(|number| self.has(number))
+    }
+
+    /// Whether each element of `other` is an element of this array (`@>`).
+    pub fn contains(&self, other: &IntArray) -> bool
+        ensures { IsTrue result ↔ ContainsEach self.now other.now }
+    {
+        for number in other.items() {
+            if !self.has(number) {
+                return false;
+            }
+        }
+        true
+    }
+
+    /// Whether both have the same elements in the same order (`=`).
+    pub fn same(&self, other: &IntArray) -> bool
+        ensures { IsTrue result ↔ (self.now ≡ other.now) }
+    {
+        self.items() == other.items()
+    }
+}

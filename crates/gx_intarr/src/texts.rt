@@ -1,0 +1,110 @@
+//! The elements of an array text.
+
+ghost use Rattle.std.specs.Prelude.{◌≡◌, ◌≢◌, ℕ, List, [], ◌∷◌, ◌++◌, length, OnOk, OnErr, option_map, slice_get, Result};
+ghost use Rattle.gx_bytes.specs.declared.error.ValueError.{ValueError};
+ghost use Rattle.gx_intarr.specs.Texts.{AnswersTexts};
+ghost use Rattle.gx_intarr.specs.Reading.{AnswersElements};
+
+use crate::elements::{behind_byte, is_end, take_element};
+use gx_bytes::{Bytes, NoMemory, ValueError, trimmed};
+use std::alloc::Global;
+use std::marker::Model;
+
+/// A list of texts. It keeps the allocator that it was made with.
+#[derive(Debug, Drop)]
+pub struct Texts {
+    texts: Vec<Bytes>,
+}
+
+impl Model for Texts {
+    ghost Value = { List (List ℕ) };
+
+    ghost view = { λ t. t.texts.items };
+}
+
+impl Texts {
+    /// No texts.
+    pub fn new(alloc: Global) -> Texts
+        ensures { result ≡ [] }
+    {
+        Texts {
+            texts: Vec::new(alloc),
+        }
+    }
+
+    /// Adds a text at the end.
+    pub fn push(&mut self, text: Bytes) -> Result<(), NoMemory>
+        ensures ok { OnOk result (self.new ≡ self.old ++ text ∷ []) }
+        ensures err { OnErr result (self.new ≡ self.old) }
+    {
+        self.texts.push(text)?;
+        Ok(())
+    }
+
+    /// How many texts there are.
+    pub fn count(&self) -> usize
+        ensures { result ≡ length self.now }
+    {
+        self.texts.len()
+    }
+
+    /// The text at this place, counted from 0.
+    pub fn text(&self, at: usize) -> Option<&[u8]>
+        ensures { option_map (λ text. text.now) result ≡ slice_get self.now at }
+    {
+        match self.texts.get(at) {
+            Some(text) => Some(text.as_slice()),
+            None => None,
+        }
+    }
+
+    /// The texts in order.
+    pub(crate) fn as_slice(&self) -> &[Bytes]
+        ensures { result.now ≡ self.now }
+    {
+        self.texts.as_slice()
+    }
+
+    /// Reads the elements of an array text, as `{a, "b c"}`, each without its quotes, its backslashes and
+    /// the white space round it. NoValue where the text hasn't this form, or an element is NULL.
+    pub fn read(alloc: Global, text: &str) -> Result<Texts, ValueError>
+        ensures { AnswersTexts text.now result }
+    {
+        let Some(body) = behind_byte(trimmed(text.as_bytes()), b'{') else {
+            return Err(ValueError::NoValue);
+        };
+        if is_end(body) {
+            return Ok(Texts::new(alloc));
+        }
+        elements_of(alloc, body)
+    }
+}
+
+/// The elements behind the opening brace, of which there is one at least.
+fn elements_of(alloc: Global, text: &[u8]) -> Result<Texts, ValueError>
+    ensures { AnswersElements text.now result }
+{
+    let mut texts = Texts::new(alloc);
+    let mut rest = text;
+    'elements: loop {
+        let Ok(found) = take_element(alloc, rest) else {
+            return Err(ValueError::Memory);
+        };
+        let Some((element, after)) = found else {
+            return Err(ValueError::NoValue);
+        };
+        texts.push(element).map_err(|_| ValueError::Memory)?;
+        if is_end(after) {
+            return Ok(texts);
+        }
+        let Some(more) = behind_byte(after, b',') else {
+            return Err(ValueError::NoValue);
+        };
+        rest = more;
+    }
+}
+
+/// A text has one answer of [`Texts::read`], unless memory is wanting.
+pub fn one_answer()
+    ensures { (text : List ℕ) (r s : Result (List (List ℕ)) ValueError) → r ≢ Err ValueError.Memory → s ≢ Err ValueError.Memory → AnswersTexts text r → AnswersTexts text s → r ≡ s }
+{}
