@@ -1,0 +1,328 @@
+//! Worked documents, boundary values, and each call once.
+
+use crate::Json;
+use gx_bytes::{Bytes, NoMemory, ValueError};
+use std::alloc::Global;
+use std::test::Fail;
+
+/// So many openings, the text, and as many closings.
+fn nested(
+    alloc: Global,
+    count: usize,
+    opening: &str,
+    inner: &str,
+    closing: &str,
+) -> Result<String, NoMemory> {
+    let mut text = String::new(alloc);
+    for _ in 0..count {
+        text.push_str(opening)?;
+    }
+    text.push_str(inner)?;
+    for _ in 0..count {
+        text.push_str(closing)?;
+    }
+    Ok(text)
+}
+
+#[test]
+fn texts_and_what_is_printed(rt: HostRuntime) -> Result<(), Fail> {
+    // The text, the printed text, and the bytes.
+    let rows = [
+        ("null", "null", "null"),
+        (" true\n", "true", "true"),
+        ("false", "false", "false"),
+        ("0", "0", "0"),
+        (
+            "9223372036854775807",
+            "9223372036854775807",
+            "9223372036854775807",
+        ),
+        (
+            "-9223372036854775808",
+            "-9223372036854775808",
+            "-9223372036854775808",
+        ),
+        (
+            "\"9223372036854775808\"",
+            "\"9223372036854775808\"",
+            "\"9223372036854775808\"",
+        ),
+        ("\"\"", "\"\"", "\"\""),
+        ("[]", "[]", "[]"),
+        ("{ }", "{}", "{}"),
+        (
+            " [ 1 ,\t\"x\",\ntrue ] ",
+            "[1, \"x\", true]",
+            "[1,\"x\",true]",
+        ),
+        ("[1,2,[1,3]]", "[1, 2, [1, 3]]", "[1,2,[1,3]]"),
+        ("{\"a\":{}}", "{\"a\": {}}", "{\"a\":{}}"),
+        (
+            "{\"a\":{\"b\":1}}",
+            "{\"a\": {\"b\": 1}}",
+            "{\"a\":{\"b\":1}}",
+        ),
+        (
+            "{\"x\":{\"k\":1}}",
+            "{\"x\": {\"k\": 1}}",
+            "{\"x\":{\"k\":1}}",
+        ),
+        (
+            "{\"id\":7,\"note\":\"x\"}",
+            "{\"id\": 7, \"note\": \"x\"}",
+            "{\"id\":7,\"note\":\"x\"}",
+        ),
+        (
+            "{\"id\":7,\"tags\":[\"t7\"]}",
+            "{\"id\": 7, \"tags\": [\"t7\"]}",
+            "{\"id\":7,\"tags\":[\"t7\"]}",
+        ),
+        (
+            "{\"bb\":1,\"a\":2,\"B\":3,\"\":4}",
+            "{\"\": 4, \"B\": 3, \"a\": 2, \"bb\": 1}",
+            "{\"\":4,\"B\":3,\"a\":2,\"bb\":1}",
+        ),
+        (
+            "{\"abc\":1,\"z\":[{\"bb\":0,\"c\":1}],\"b\":2}",
+            "{\"b\": 2, \"z\": [{\"c\": 1, \"bb\": 0}], \"abc\": 1}",
+            "{\"abc\":1,\"b\":2,\"z\":[{\"bb\":0,\"c\":1}]}",
+        ),
+        (
+            "{\"é\":1,\"zzz\":2,\"z\":3}",
+            "{\"z\": 3, \"é\": 1, \"zzz\": 2}",
+            "{\"z\":3,\"zzz\":2,\"é\":1}",
+        ),
+        (
+            "{\"a\":1,\"a\":[2],\"b\":{ }}",
+            "{\"a\": [2], \"b\": {}}",
+            "{\"a\":[2],\"b\":{}}",
+        ),
+        ("{\"a\":\"\\u0000\",\"a\":1}", "{\"a\": 1}", "{\"a\":1}"),
+        ("\"\\u0041\\/\\u00e9\"", "\"A/é\"", "\"A/é\""),
+        (
+            "\"\\\"\\\\\\b\\f\\n\\r\\t\"",
+            "\"\\\"\\\\\\b\\f\\n\\r\\t\"",
+            "\"\\\"\\\\\\b\\f\\n\\r\\t\"",
+        ),
+        (
+            "\"\\u0001\\u001F\\u007f\"",
+            "\"\\u0001\\u001f\x7f\"",
+            "\"\\u0001\\u001f\x7f\"",
+        ),
+        ("\"\\ud83d\\ude00\"", "\"😀\"", "\"😀\""),
+        (
+            "\"[[{{1.5 01 \\\\\"",
+            "\"[[{{1.5 01 \\\\\"",
+            "\"[[{{1.5 01 \\\\\"",
+        ),
+    ];
+    for (text, want, want_bytes) in rows {
+        let json = Json::read(rt.alloc(), text)?;
+        let mut printed = Bytes::new(rt.alloc());
+        json.print(&mut printed)?;
+        assert!(rt; printed.as_slice() == want.as_bytes(), "at {text}");
+        let mut bytes = Bytes::new(rt.alloc());
+        json.encode(&mut bytes)?;
+        assert!(rt; bytes.as_slice() == want_bytes.as_bytes(), "at {text}");
+        // The printed text reads back as the same document: its bytes are the same.
+        let mut again = Bytes::new(rt.alloc());
+        Json::read(rt.alloc(), want)?.encode(&mut again)?;
+        assert!(rt; again.as_slice() == want_bytes.as_bytes(), "at {text}");
+        let decoded = Json::decode(rt.alloc(), bytes.as_slice())?.ok_or("no document")?;
+        let mut last = Bytes::new(rt.alloc());
+        decoded.print(&mut last)?;
+        assert!(rt; last.as_slice() == want.as_bytes(), "at {text}");
+    }
+    Ok(())
+}
+
+#[test]
+fn a_document_of_six_thousand_bytes(rt: HostRuntime) -> Result<(), Fail> {
+    let alloc = rt.alloc();
+    let letters = nested(alloc, 5979, "x", "", "")?;
+    let text = format!(in alloc; "{{\"id\":7,\"note\":\"{letters}\"}}")?;
+    let want = format!(in alloc; "{{\"id\": 7, \"note\": \"{letters}\"}}")?;
+    let json = Json::read(alloc, text.as_str())?;
+    let mut printed = Bytes::new(alloc);
+    json.print(&mut printed)?;
+    assert_eq!(rt; printed.len(), 6000);
+    assert!(rt; printed.as_slice() == want.as_bytes());
+    let mut again = Bytes::new(alloc);
+    Json::read(alloc, want.as_str())?.encode(&mut again)?;
+    assert!(rt; again.as_slice() == text.as_bytes());
+    Ok(())
+}
+
+#[test]
+fn texts_that_are_refused(rt: HostRuntime) {
+    let rows = [
+        ("", ValueError::NoValue),
+        (" ", ValueError::NoValue),
+        ("[1,]", ValueError::NoValue),
+        ("{\"a\"}", ValueError::NoValue),
+        ("{\"a\":1,}", ValueError::NoValue),
+        ("{a:1}", ValueError::NoValue),
+        ("[1] 2", ValueError::NoValue),
+        ("True", ValueError::NoValue),
+        ("nul", ValueError::NoValue),
+        ("]", ValueError::NoValue),
+        ("[1}", ValueError::NoValue),
+        ("\x0b1", ValueError::NoValue),
+        // strings
+        ("\"\\u0000\"", ValueError::NoValue),
+        ("{\"\\u0000\":1}", ValueError::NoValue),
+        ("\"\n\"", ValueError::NoValue),
+        ("\"a", ValueError::NoValue),
+        ("\"\\x\"", ValueError::NoValue),
+        ("\"\\ud83d\"", ValueError::NoValue),
+        ("\"\\ude00\"", ValueError::NoValue),
+        ("\"\\ud83d\\u0041\"", ValueError::NoValue),
+        ("'x'", ValueError::NoValue),
+        // numbers
+        ("9223372036854775808", ValueError::OutOfRange),
+        ("-9223372036854775809", ValueError::OutOfRange),
+        ("18446744073709551616", ValueError::OutOfRange),
+        ("1.5", ValueError::NoValue),
+        ("1e3", ValueError::NoValue),
+        ("01", ValueError::NoValue),
+        ("-", ValueError::NoValue),
+        ("-01", ValueError::NoValue),
+        ("+1", ValueError::NoValue),
+        ("-0", ValueError::NoValue),
+        ("[9223372036854775808", ValueError::OutOfRange),
+        ("[x,9223372036854775808]", ValueError::OutOfRange),
+        ("[01,9223372036854775808]", ValueError::NoValue),
+        ("[9223372036854775808,01]", ValueError::OutOfRange),
+        (
+            "{\"a\":9223372036854775808,\"a\":1}",
+            ValueError::OutOfRange,
+        ),
+        ("[\"\\\"01\", 9223372036854775808]", ValueError::OutOfRange),
+        ("[\"\\\\\"01, 9223372036854775808]", ValueError::NoValue),
+    ];
+    for (text, want) in rows {
+        assert!(rt;
+            Json::read(rt.alloc(), text).err() == Some(want),
+            "at {text}"
+        );
+    }
+}
+
+#[test]
+fn sixty_four_levels(rt: HostRuntime) -> Result<(), Fail> {
+    let rows = [
+        (64, "[", "", "]", None),
+        (65, "[", "", "]", Some(ValueError::TooDeep)),
+        (64, "{\"a\":", "1", "}", None),
+        (65, "{\"a\":", "1", "}", Some(ValueError::TooDeep)),
+        (64, "[", "", "", Some(ValueError::NoValue)),
+        (65, "[", "01", "", Some(ValueError::TooDeep)),
+        (66, "\"[\",", "01", "", Some(ValueError::NoValue)),
+        (65, "[],", "", "", Some(ValueError::NoValue)),
+        (65, "]", "", "", Some(ValueError::NoValue)),
+    ];
+    for (count, opening, inner, closing, want) in rows {
+        let text = nested(rt.alloc(), count, opening, inner, closing)?;
+        let fault = Json::read(rt.alloc(), text.as_str()).err();
+        assert!(rt; fault == want, "{count} times {opening}");
+    }
+    let deep = nested(rt.alloc(), 65, "[", "", "]")?;
+    assert!(rt; Json::decode(rt.alloc(), deep.as_bytes())?.is_none());
+    Ok(())
+}
+
+#[test]
+fn bytes_of_no_document(rt: HostRuntime) -> Result<(), Fail> {
+    let rows = [
+        b"".as_slice(),
+        b"[1, 2]",
+        b"{\"b\":1,\"a\":2}",
+        b"{\"a\":1,\"a\":1}",
+        b"1.5",
+        b"-0",
+        b"9223372036854775808",
+        b"\"\\u0041\"",
+        b"\"\\u0000\"",
+        b"\"\xff\"",
+        b"nul",
+    ];
+    for bytes in rows {
+        assert!(rt; Json::decode(rt.alloc(), bytes)?.is_none(), "at {bytes:?}");
+    }
+    Ok(())
+}
+
+#[test]
+fn keys_and_texts_at_the_top(rt: HostRuntime) -> Result<(), Fail> {
+    let rows = [
+        ("{\"x\":{\"k\":1}}", "k", false),
+        ("{\"x\":{\"k\":1}}", "x", true),
+        ("{\"k\":2}", "k", true),
+        ("[\"k\"]", "k", true),
+        ("[[\"k\"]]", "k", false),
+        ("[{\"k\":1}]", "k", false),
+        ("\"k\"", "k", true),
+        ("\"kk\"", "k", false),
+        ("{\"a\":\"k\"}", "k", false),
+        ("[1,null]", "1", false),
+        ("1", "1", false),
+        ("{\"\":1}", "", true),
+    ];
+    for (text, key, want) in rows {
+        let json = Json::read(rt.alloc(), text)?;
+        assert_eq!(rt; json.has_key(key.as_bytes()), want, "{key} in {text}");
+    }
+    Ok(())
+}
+
+/// Whether the first document contains the second.
+fn contains(alloc: Global, text: &str, other: &str) -> Result<bool, ValueError> {
+    let json = Json::read(alloc, text)?;
+    let wanted = Json::read(alloc, other)?;
+    Ok(json.contains(&wanted))
+}
+
+#[test]
+fn documents_in_one_another(rt: HostRuntime) -> Result<(), Fail> {
+    let rows = [
+        ("[1,2,[1,3]]", "[1,3]", false),
+        ("[1,2,[1,3]]", "[[1,3]]", true),
+        ("[1,2,[1,3]]", "[[3]]", true),
+        ("[\"foo\"]", "\"foo\"", true),
+        ("\"foo\"", "\"foo\"", true),
+        ("\"foo\"", "[\"foo\"]", false),
+        ("[\"foo\"]", "[\"foo\"]", true),
+        ("{\"a\":{}}", "{\"a\":{}}", true),
+        ("{\"a\":{\"b\":1}}", "{\"a\":{}}", true),
+        ("{\"a\":1}", "{\"a\":{}}", false),
+        ("[]", "{\"a\":{}}", false),
+        (
+            "{\"a\":[1,{\"b\":2}],\"c\":null}",
+            "{\"a\":[{\"b\":2}]}",
+            true,
+        ),
+        ("{\"a\":[1,{\"b\":2}],\"c\":null}", "{\"a\":1}", false),
+        ("{\"a\":[1,{\"b\":2}],\"c\":null}", "{\"c\":null}", true),
+        ("{\"a\":1,\"c\":2,\"e\":3}", "{\"e\":3,\"a\":1}", true),
+        ("{\"a\":1,\"c\":2,\"e\":3}", "{\"b\":1}", false),
+        ("{\"a\":1,\"c\":2,\"e\":3}", "{\"f\":1}", false),
+        ("[\"a\",\"b\"]", "[\"b\",\"a\",\"a\"]", true),
+        ("[[1,2]]", "[[1]]", true),
+        ("[[1,2]]", "1", false),
+        ("[[\"a\"]]", "[\"a\"]", false),
+        ("1", "1", true),
+        ("1", "2", false),
+        ("true", "true", true),
+        ("null", "false", false),
+        ("[null,true]", "[]", true),
+        ("[null,true]", "true", true),
+        ("[[]]", "[]", true),
+        ("{}", "{}", true),
+        ("[{}]", "{}", false),
+    ];
+    for (text, other, want) in rows {
+        let answer = contains(rt.alloc(), text, other)?;
+        assert_eq!(rt; answer, want, "{other} in {text}");
+    }
+    Ok(())
+}
