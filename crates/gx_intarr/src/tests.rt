@@ -138,6 +138,23 @@ fn arrays_as_bytes(rt: HostRuntime) -> Result<(), Fail> {
 }
 
 #[test]
+fn arrays_of_given_parts(rt: HostRuntime) -> Result<(), Fail> {
+    let alloc = rt.alloc();
+    let array = IntArray::from_items(alloc, Vec::from_array(alloc, [2, -1, 2])?)?;
+    assert!(rt; array.items() == [2, -1, 2].as_slice());
+    let mut texts = Texts::new(alloc);
+    texts.push(Bytes::from_slice(alloc, b" +7")?)?;
+    texts.push(Bytes::from_slice(alloc, b"-2147483648")?)?;
+    let array = IntArray::from_texts(alloc, &texts)?;
+    assert!(rt; array.items() == [7, -2147483648].as_slice());
+    texts.push(Bytes::from_slice(alloc, b"2147483648")?)?;
+    texts.push(Bytes::from_slice(alloc, b"x")?)?;
+    let fault = IntArray::from_texts(alloc, &texts).err();
+    assert!(rt; fault == Some(ValueError::OutOfRange));
+    Ok(())
+}
+
+#[test]
 fn operators_of_arrays(rt: HostRuntime) -> Result<(), Fail> {
     // Whether the first overlaps the second, contains it, and is the same.
     let rows = [
