@@ -70,6 +70,6 @@ impl IntArray {
     pub fn same(&self, other: &IntArray) -> bool
         ensures { IsTrue result ↔ (self.now ≡ other.now) }
     {
-        self.items() == other.items()
+        self.items.as_slice() == other.items.as_slice()
     }
 }
