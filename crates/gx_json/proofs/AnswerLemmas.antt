@@ -92,7 +92,7 @@ whole_number (negative (negsuc n)) h = refl
 whole_number (float x) h = absurd h
 
 mutual
-  stored_whole : (d : Data) → IsStored d → all_whole d ≡ true
+  pub stored_whole : (d : Data) → IsStored d → all_whole d ≡ true
   stored_whole null h = refl
   stored_whole (boolean b) h = refl
   stored_whole (number n) h = whole_number n h

@@ -6,3 +6,9 @@ pub mod ConvertLemmas
 pub mod AnswerLemmas
 pub mod OperatorLemmas
 pub mod ReadBack
+pub mod PartLemmas
+pub mod LongestRuns
+pub mod KeyLemmas
+pub mod PrintedTrees
+pub mod PrintedTokens
+pub mod PrintedChecks

@@ -24,7 +24,7 @@ use Rattle.gx_json.specs.Valid.{IsWholeNumber, IsBelowAll, IsRising, IsStored, A
 use Rattle.gx_json.specs.Steps.{joined, AreBelow}
 use Rattle.gx_json.proofs.OperatorLemmas.{below_more, joined-assoc}
 
-number_reads : (n : Num) → IsWholeNumber n → number_of (number_text n) ≡ Some n
+pub number_reads : (n : Num) → IsWholeNumber n → number_of (number_text n) ≡ Some n
 number_reads (unsigned n) h = number_of-decimal n (omega arith)
 number_reads (negative (pos n)) h = absurd h
 number_reads (negative (negsuc n)) h = number_of-negative n h
@@ -32,25 +32,25 @@ number_reads (float x) h = absurd h
 
 -- ---- members that come in order
 
-abbrev Precede : Members → Members → Type 0
+abbrev pub Precede : Members → Members → Type 0
 Precede es no_members = Unit {0}
 Precede es (member k d ms) = AreBelow es k × Precede es ms
 
-precede_none : (ms : Members) → Precede no_members ms
+pub precede_none : (ms : Members) → Precede no_members ms
 precede_none no_members = tt
 precede_none (member k d ms) = (tt, precede_none ms)
 
-precede_last : (es : Members) (k : List ℕ) (d : Data) (ms : Members) → Precede es ms → IsBelowAll k ms → Precede (joined es (member k d no_members)) ms
+pub precede_last : (es : Members) (k : List ℕ) (d : Data) (ms : Members) → Precede es ms → IsBelowAll k ms → Precede (joined es (member k d no_members)) ms
 precede_last es k d no_members p r = tt
 precede_last es k d (member l e ms) p r = (below_more es l k d p.0 r.0, precede_last es k d ms p.1 r.1)
 
-put_last : (es : Members) (k : List ℕ) (d : Data) → AreBelow es k → put k d es ≡ joined es (member k d no_members)
+pub put_last : (es : Members) (k : List ℕ) (d : Data) → AreBelow es k → put k d es ≡ joined es (member k d no_members)
 put_last no_members k d h = refl
 put_last (member l e es) k d h =
     let above : slice_cmp nat_cmp k l ≡ Greater = nat_list_cmp_total.antisymm k l ∙ ap ordering_reverse h.0 in
     rw above (ap (member l e) (put_last es k d h.1))
 
-joined_none : (es : Members) → joined es no_members ≡ es
+pub joined_none : (es : Members) → joined es no_members ≡ es
 joined_none no_members = refl
 joined_none (member k d es) = ap (member k d) (joined_none es)
 
@@ -94,7 +94,7 @@ mutual
   members_outline_depth no_members = refl
   members_outline_depth (member k d ms) = ap₂ max (outline_depth d) (members_outline_depth ms)
 
-number_is : (n : Num) → IsWholeNumber n → IsNumber (number_text n)
+pub number_is : (n : Num) → IsWholeNumber n → IsNumber (number_text n)
 number_is (unsigned n) h = IsNumber-decimal n (omega arith)
 number_is (negative (pos n)) h = absurd h
 number_is (negative (negsuc n)) h = IsNumber-signed_decimal (negsuc n) h
@@ -118,7 +118,7 @@ mutual
   members_numbers (member k d ms) h = (outline_numbers d h.0.1, members_numbers ms h.1)
 
 -- the end of `read`
-abbrev whole : Option (json.Json × List Token) → Option Data
+abbrev pub whole : Option (json.Json × List Token) → Option Data
 whole o = option_and_then of_json (option_and_then (λ p. json.if_last p.0 p.1) o)
 
 pub compact_reads : (d : Data) → IsStored d → depth d ≤ max_depth → read (compact_text d) ≡ Some d

@@ -17,14 +17,14 @@ opened_more signs i count next within before is =
     is ∙ ap (λ (n : ℕ). open_behind n (get_or signs i 0)) before ∙ sym (fold_more open_behind 0 signs i 0 within)
 
 -- a byte that begins a run goes on with it
-begins_goes_on : (c : ℕ) → begins_run c ≡ true → is_run_byte c ≡ true
+pub begins_goes_on : (c : ℕ) → begins_run c ≡ true → is_run_byte c ≡ true
 begins_goes_on c h = rw h refl
 
 no_start_from : (b : Bool) (c : ℕ) → begins_run c ≡ b → is_run_byte c ≡ false → b ≡ false
 no_start_from true c e h = absurd (true≢false (sym (begins_goes_on c e) ∙ h))
 no_start_from false c e h = refl
 
-stops_no_start : (c : ℕ) → is_run_byte c ≡ false → begins_run c ≡ false
+pub stops_no_start : (c : ℕ) → is_run_byte c ≡ false → begins_run c ≡ false
 stops_no_start c h = no_start_from (begins_run c) c refl h
 
 -- the first byte that passes, and none

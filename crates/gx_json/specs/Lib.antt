@@ -2,6 +2,8 @@ pub mod Tree
 pub mod Valid
 pub mod Scan
 pub mod Places
+pub mod Parts
+pub mod Keys
 pub mod Text
 pub mod Print
 pub mod Operators

@@ -1,14 +1,16 @@
 //! The printed text of a document.
 
-ghost use Rattle.std.specs.Prelude.{◌≡◌, ◌++◌, OnOk, IfOk};
-ghost use Rattle.serde_json.specs.Data.{array, object};
+ghost use Rattle.std.specs.Prelude.{◌≡◌, ◌++◌, OnOk, IfOk, map, IsPermutation, Ok};
+ghost use Rattle.serde_json.specs.Data.{Data, array, object};
 ghost use Rattle.gx_json.specs.Tree.{data_of, items_data, members_data};
-ghost use Rattle.gx_json.specs.Print.{printed, separator, of_length, entries_of};
-ghost use Rattle.gx_json.specs.Steps.{PrintsEntries, IsNextLength, nearer};
+ghost use Rattle.gx_json.specs.Valid.{IsDocument};
+ghost use Rattle.gx_json.specs.Text.{AnswersJson};
+ghost use Rattle.gx_json.specs.Print.{printed, separator, shorter_first, entries_of};
 
 use crate::document::Json;
 use crate::text::push_quoted;
 use gx_bytes::{Bytes, NoMemory, print_whole};
+use std::alloc::Global;
 
 impl Json {
     /// Appends the text with a space behind each comma and each colon, and with shorter keys first.
@@ -18,6 +20,11 @@ impl Json {
         print_value(self, to)
     }
 }
+
+/// The printed text of a document is read as that document.
+pub fn printed_again()
+    ensures { (d : Data) → IsDocument d → AnswersJson (printed d) (Ok d) }
+{}
 
 #[cycle(print)]
 fn print_value(value: &Json, to: &mut Bytes) -> Result<(), NoMemory>
@@ -50,43 +57,36 @@ fn print_items(items: &[Json], to: &mut Bytes) -> Result<(), NoMemory>
     Ok(())
 }
 
-/// The members with the shortest keys first, and so on.
+/// The members with shorter keys first, and those with keys of one length by their bytes, as they stand.
 #[cycle(print)]
 fn print_pairs(pairs: &[(Bytes, Json)], to: &mut Bytes) -> Result<(), NoMemory>
     ensures { OnOk result (to.new ≡ to.old ++ printed (object (members_data pairs.now))) }
 {
+    let order = by_length(to.allocator(), pairs)?;
     to.push(b'{')?;
     let mut later = false;
-    let mut last = None;
-    'lengths: while let Some(length) = next_length(pairs, last) {
-        later = print_of_length(pairs, length, later, to)?;
-        last = Some(length);
+    for pair in &order {
+        push_separator(later, to)?;
+        push_quoted(pair.0.as_slice(), to)?;
+        to.extend_from_slice(b": ")?;
+        print_value(&pair.1, to)?;
+        later = true;
     }
     to.push(b'}')?;
     Ok(())
 }
 
-/// The members with keys of this length. Answers whether there is something before what comes next.
-#[cycle(print)]
-fn print_of_length(
-    pairs: &[(Bytes, Json)],
-    length: usize,
-    before: bool,
-    to: &mut Bytes,
-) -> Result<bool, NoMemory>
-    ensures { IfOk result (λ after. PrintsEntries to.old to.new before after (of_length length (entries_of (members_data pairs.now)))) }
+/// The members with shorter keys first.
+fn by_length(alloc: Global, pairs: &[(Bytes, Json)]) -> Result<Vec<&(Bytes, Json)>, NoMemory>
+    ensures same { IfOk result (λ v. IsPermutation pairs.now (map (λ r. r.now) v.items)) }
+    ensures sorted { IfOk result (λ v. entries_of (members_data (map (λ r. r.now) v.items)) ≡ shorter_first (entries_of (members_data pairs.now))) }
 {
-    let mut later = before;
+    let mut order = Vec::with_capacity(alloc, pairs.len())?;
     for pair in pairs {
-        if pair.0.len() == length {
-            push_separator(later, to)?;
-            push_quoted(pair.0.as_slice(), to)?;
-            to.extend_from_slice(b": ")?;
-            print_value(&pair.1, to)?;
-            later = true;
-        }
+        order.push(pair)?;
     }
-    Ok(later)
+    order.sort_by_key(|pair| pair.0.len())?;
+    Ok(order)
 }
 
 fn push_separator(later: bool, to: &mut Bytes) -> Result<(), NoMemory>
@@ -96,30 +96,4 @@ fn push_separator(later: bool, to: &mut Bytes) -> Result<(), NoMemory>
         to.extend_from_slice(b", ")?;
     }
     Ok(())
-}
-
-/// The least length of a key that is greater than the last.
-fn next_length(pairs: &[(Bytes, Json)], last: Option<usize>) -> Option<usize>
-    ensures { IsNextLength (entries_of (members_data pairs.now)) last result }
-{
-    let mut next: Option<usize> = None;
-    for pair in pairs {
-        next = nearer(pair.0.len(), last, next);
-    }
-    next
-}
-
-/// The length, where it is greater than the last and less than the next.
-fn nearer(length: usize, last: Option<usize>, next: Option<usize>) -> Option<usize>
-    ensures { result ≡ nearer length last next }
-{
-    let passed = match last {
-        Some(last) => length <= last,
-        None => false,
-    };
-    let near = match next {
-        Some(next) => next <= length,
-        None => false,
-    };
-    if passed || near { next } else { Some(length) }
 }

@@ -92,6 +92,16 @@ fn texts_and_what_is_printed(rt: HostRuntime) -> Result<(), Fail> {
             "{\"z\": 3, \"é\": 1, \"zzz\": 2}",
             "{\"z\":3,\"zzz\":2,\"é\":1}",
         ),
+        ("[\"foo\"]", "[\"foo\"]", "[\"foo\"]"),
+        ("\"foo\"", "\"foo\"", "\"foo\""),
+        ("{\"k\":2}", "{\"k\": 2}", "{\"k\":2}"),
+        ("[\"k\"]", "[\"k\"]", "[\"k\"]"),
+        ("{\"a\":1,\"a\":2}", "{\"a\": 2}", "{\"a\":2}"),
+        (
+            "[{\"a\":1,\"b\":{\"c\":1,\"c\":2},\"a\":3}]",
+            "[{\"a\": 3, \"b\": {\"c\": 2}}]",
+            "[{\"a\":3,\"b\":{\"c\":2}}]",
+        ),
         (
             "{\"a\":1,\"a\":[2],\"b\":{ }}",
             "{\"a\": [2], \"b\": {}}",
@@ -136,6 +146,28 @@ fn texts_and_what_is_printed(rt: HostRuntime) -> Result<(), Fail> {
     Ok(())
 }
 
+/// Keys whose order by bytes is the reverse of that by length.
+#[test]
+fn many_keys_by_length(rt: HostRuntime) -> Result<(), Fail> {
+    let alloc = rt.alloc();
+    let letters = [
+        "z", "y", "x", "w", "v", "u", "t", "s", "r", "q", "p", "o", "n", "m", "l", "k", "j", "i",
+        "h", "g", "f", "e", "d", "c", "b", "a",
+    ];
+    let mut text = String::new(alloc);
+    let mut before = "{";
+    for (at, letter) in letters.iter().enumerate() {
+        let key = nested(alloc, at + 1, letter, "", "")?;
+        text.push_str(format!(in alloc; "{before}\"{key}\": {at}")?.as_str())?;
+        before = ", ";
+    }
+    text.push('}')?;
+    let mut printed = Bytes::new(alloc);
+    Json::read(alloc, text.as_str())?.print(&mut printed)?;
+    assert!(rt; printed.as_slice() == text.as_bytes());
+    Ok(())
+}
+
 #[test]
 fn a_document_of_six_thousand_bytes(rt: HostRuntime) -> Result<(), Fail> {
     let alloc = rt.alloc();
@@ -150,6 +182,10 @@ fn a_document_of_six_thousand_bytes(rt: HostRuntime) -> Result<(), Fail> {
     let mut again = Bytes::new(alloc);
     Json::read(alloc, want.as_str())?.encode(&mut again)?;
     assert!(rt; again.as_slice() == text.as_bytes());
+    assert!(rt; json.contains(&Json::read(alloc, "{\"id\":7}")?));
+    assert!(rt; json.contains(&Json::read(alloc, want.as_str())?));
+    assert!(rt; !json.contains(&Json::read(alloc, "{\"id\":8}")?));
+    assert!(rt; json.has_key(b"note"));
     Ok(())
 }
 
@@ -168,6 +204,7 @@ fn texts_that_are_refused(rt: HostRuntime) {
         ("]", ValueError::NoValue),
         ("[1}", ValueError::NoValue),
         ("\x0b1", ValueError::NoValue),
+        ("\x0c1", ValueError::NoValue),
         // strings
         ("\"\\u0000\"", ValueError::NoValue),
         ("{\"\\u0000\":1}", ValueError::NoValue),
@@ -188,6 +225,8 @@ fn texts_that_are_refused(rt: HostRuntime) {
         ("-", ValueError::NoValue),
         ("-01", ValueError::NoValue),
         ("+1", ValueError::NoValue),
+        ("+9223372036854775808", ValueError::OutOfRange),
+        ("e9223372036854775808", ValueError::OutOfRange),
         ("-0", ValueError::NoValue),
         ("[9223372036854775808", ValueError::OutOfRange),
         ("[x,9223372036854775808]", ValueError::OutOfRange),
@@ -226,6 +265,14 @@ fn sixty_four_levels(rt: HostRuntime) -> Result<(), Fail> {
         let fault = Json::read(rt.alloc(), text.as_str()).err();
         assert!(rt; fault == want, "{count} times {opening}");
     }
+    let full = nested(rt.alloc(), 64, "[", "", "]")?;
+    let mut bytes = Bytes::new(rt.alloc());
+    Json::read(rt.alloc(), full.as_str())?.encode(&mut bytes)?;
+    assert!(rt; bytes.as_slice() == full.as_bytes());
+    let decoded = Json::decode(rt.alloc(), bytes.as_slice())?.ok_or("no document")?;
+    let mut printed = Bytes::new(rt.alloc());
+    decoded.print(&mut printed)?;
+    assert!(rt; printed.as_slice() == full.as_bytes());
     let deep = nested(rt.alloc(), 65, "[", "", "]")?;
     assert!(rt; Json::decode(rt.alloc(), deep.as_bytes())?.is_none());
     Ok(())
@@ -256,6 +303,8 @@ fn bytes_of_no_document(rt: HostRuntime) -> Result<(), Fail> {
 fn keys_and_texts_at_the_top(rt: HostRuntime) -> Result<(), Fail> {
     let rows = [
         ("{\"x\":{\"k\":1}}", "k", false),
+        ("{\"id\":7,\"tags\":[\"t7\"]}", "tags", true),
+        ("{\"id\":7,\"tags\":[\"t7\"]}", "t7", false),
         ("{\"x\":{\"k\":1}}", "x", true),
         ("{\"k\":2}", "k", true),
         ("[\"k\"]", "k", true),
@@ -296,6 +345,10 @@ fn documents_in_one_another(rt: HostRuntime) -> Result<(), Fail> {
         ("{\"a\":{\"b\":1}}", "{\"a\":{}}", true),
         ("{\"a\":1}", "{\"a\":{}}", false),
         ("[]", "{\"a\":{}}", false),
+        ("{}", "[]", false),
+        ("[]", "{}", false),
+        ("{\"id\":9,\"tags\":[\"t9\"]}", "{\"tags\":[\"t9\"]}", true),
+        ("{\"id\":7,\"tags\":[\"t7\"]}", "{\"tags\":[\"t9\"]}", false),
         (
             "{\"a\":[1,{\"b\":2}],\"c\":null}",
             "{\"a\":[{\"b\":2}]}",
