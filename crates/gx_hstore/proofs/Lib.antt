@@ -3,6 +3,7 @@ pub mod MapLemmas
 pub mod Progress
 pub mod SignLemmas
 pub mod PairLemmas
+pub mod PartLemmas
 pub mod AnswerLemmas
 pub mod PrintLemmas
 pub mod EncodingLemmas

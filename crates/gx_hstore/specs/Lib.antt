@@ -3,3 +3,4 @@ pub mod Map
 pub mod Printing
 pub mod Steps
 pub mod Text
+pub mod Parts

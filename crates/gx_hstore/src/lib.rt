@@ -12,7 +12,7 @@ mod strings;
 pub use encoding::one_encoding;
 pub use hstore::Hstore;
 pub use print::printed_again;
-pub use read::one_answer;
+pub use read::{made_of_pairs, one_answer};
 
 #[cfg(test)]
 mod tests;

@@ -1,8 +1,9 @@
 //! The reader of maps.
 
-ghost use Rattle.std.specs.Prelude.{◌≡◌, ◌≢◌, ℕ, List, Option, Result, Ok, IfOk, MatchOption, ◌∷◌};
+ghost use Rattle.std.specs.Prelude.{◌≡◌, ◌≢◌, ℕ, List, Option, Result, Ok, IfOk, MatchOption, ◌∷◌, ◌↔◌};
 ghost use Rattle.gx_bytes.specs.declared.error.ValueError.{ValueError};
 ghost use Rattle.gx_hstore.specs.Map.{IsHstore, Pair};
+ghost use Rattle.gx_hstore.specs.Parts.{IsMadeOf};
 ghost use Rattle.gx_hstore.specs.Text.{TakesPair, SpellsPairs, SpellsHstore, AnswersHstore};
 
 use crate::first::first_of_each;
@@ -87,6 +88,12 @@ fn behind_arrow(text: &[u8]) -> Option<&[u8]>
         _ => None,
     }
 }
+
+/// A text spells pairs exactly where it is made of them, as a whole: keys, `=>` and values with white space round them,
+/// and commas.
+pub fn made_of_pairs()
+    ensures { (text : List ℕ) (pairs : List Pair) → SpellsPairs text pairs ↔ IsMadeOf text pairs }
+{}
 
 /// A text has one answer, unless memory is wanting.
 pub fn one_answer()

@@ -41,6 +41,10 @@ fn texts_and_their_printed_form(rt: HostRuntime) -> Result<(), Fail> {
         ("\t\r\n\x0c a => 1 , \n", r#""a"=>"1""#),
         ("é=>x,zz=>y", r#""zz"=>"y", "é"=>"x""#),
         ("\x0b=>a\x0b", "\"\x0b\"=>\"a\x0b\""),
+        (
+            "{=>1,|=>1,}=>1,~=>1,_=>1,@=>1",
+            r#""@"=>"1", "_"=>"1", "{"=>"1", "|"=>"1", "}"=>"1", "~"=>"1""#,
+        ),
     ];
     for (text, want) in rows {
         let hstore = Hstore::read(rt.alloc(), text)?;
@@ -135,6 +139,54 @@ fn pairs_in_printed_order(rt: HostRuntime) -> Result<(), Fail> {
     assert!(rt; hstore.pair(1) == Some((b"z".as_slice(), None)));
     assert!(rt; hstore.pair(2) == Some((b"bb".as_slice(), Some(b"1".as_slice()))));
     assert!(rt; hstore.pair(3).is_none());
+    Ok(())
+}
+
+#[test]
+fn keys_of_worked_rows(rt: HostRuntime) -> Result<(), Fail> {
+    let letters =
+        "a=>1,b=>1,c=>1,d=>1,e=>1,f=>1,g=>1,h=>1,i=>1,j=>1,k=>1,l=>1,m=>1,n=>1,o=>1,p=>1,q=>1,r=>1,s=>1,\
+        t=>1,u=>1,v=>1,w=>1,x=>1,y=>1,z=>1,{=>1,|=>1,}=>1,~=>1,_=>1,@=>1";
+    for (more, count, there) in [("", 32, false), (",zz=>1", 33, true), (",q1=>1", 33, false)] {
+        let text = format!(in rt.alloc(); "{letters}{more}")?;
+        let hstore = Hstore::read(rt.alloc(), text.as_str())?;
+        assert_eq!(rt; hstore.count(), count);
+        assert_eq!(rt; hstore.has(b"zz"), there);
+    }
+    let rows = [
+        (r#"guest=>"Ada L.", vip=>NULL"#, "guest", true),
+        (r#"guest=>"Ada L.", vip=>NULL"#, "vip", true),
+        ("guest=>Bo", "guest", true),
+        ("guest=>Bo", "vip", false),
+        ("k3=>v13", "k3", true),
+        ("k4=>v14", "k3", false),
+    ];
+    for (text, key, there) in rows {
+        let hstore = Hstore::read(rt.alloc(), text)?;
+        assert_eq!(rt; hstore.has(key.as_bytes()), there, "{key} in {text}");
+    }
+    let hstore = Hstore::read(rt.alloc(), "k4=>v14")?;
+    for (text, contained) in [("k4=>v14", true), ("k4=>v4", false)] {
+        let other = Hstore::read(rt.alloc(), text)?;
+        assert_eq!(rt; hstore.contains(&other), contained, "{text}");
+    }
+    Ok(())
+}
+
+#[test]
+fn lengths_of_two_bytes(rt: HostRuntime) -> Result<(), Fail> {
+    let alloc = rt.alloc();
+    let mut word = String::new(alloc);
+    for _ in 0..128 {
+        word.push('x')?;
+    }
+    let hstore = Hstore::read(alloc, format!(in alloc; "{word}=>{word}")?.as_str())?;
+    let bytes = encoded(alloc, &hstore)?;
+    assert_eq!(rt; bytes.len(), 2 * (2 + 128) + 1);
+    assert!(rt; bytes.as_slice().starts_with(&[128, 1, b'x']));
+    let again = Hstore::decode(alloc, bytes.as_slice())?.ok_or("no map")?;
+    assert!(rt; again.has(word.as_bytes()));
+    assert!(rt; again.contains(&hstore));
     Ok(())
 }
 
