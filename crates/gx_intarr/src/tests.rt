@@ -16,6 +16,7 @@ fn elements_of_array_texts(rt: HostRuntime) -> Result<(), Fail> {
         ("{\"\",\"NULL\",nulls}", 3, ";NULL;nulls;"),
         ("{\"a,{}\\\"\\\\\\b \"}", 1, "a,{}\"\\b ;"),
         ("{\"1\", 2}", 2, "1;2;"),
+        ("{\x0ba}", 1, "\x0ba;"),
     ];
     for (text, count, want) in rows {
         let texts = Texts::read(rt.alloc(), text)?;
@@ -104,6 +105,7 @@ fn arrays_that_are_refused(rt: HostRuntime) {
         ("{x,2147483648}", ValueError::NoValue),
         ("{2147483648,}", ValueError::NoValue),
         ("{99999999999999999999}", ValueError::OutOfRange),
+        ("{\x0b1}", ValueError::NoValue),
     ];
     for (text, want) in rows {
         assert!(rt;
@@ -134,6 +136,21 @@ fn arrays_as_bytes(rt: HostRuntime) -> Result<(), Fail> {
         assert!(rt; IntArray::decode(rt.alloc(), bytes)?.is_none());
     }
     assert!(rt; IntArray::decode(rt.alloc(), &[0])?.is_some());
+    Ok(())
+}
+
+#[test]
+fn a_count_of_two_bytes(rt: HostRuntime) -> Result<(), Fail> {
+    let alloc = rt.alloc();
+    let text = repeated(alloc, "5,", 127, "6")?;
+    let array = IntArray::read(alloc, format!(in alloc; "{{{text}}}")?.as_str())?;
+    let mut bytes = Bytes::new(alloc);
+    array.encode(&mut bytes)?;
+    assert_eq!(rt; bytes.len(), 2 + 4 * 128);
+    assert!(rt; bytes.as_slice().starts_with(&[128, 1, 5, 0, 0, 0]));
+    assert!(rt; bytes.as_slice().ends_with(&[6, 0, 0, 0]));
+    let again = IntArray::decode(alloc, bytes.as_slice())?.ok_or("no array")?;
+    assert!(rt; again.same(&array));
     Ok(())
 }
 
@@ -169,6 +186,19 @@ fn operators_of_arrays(rt: HostRuntime) -> Result<(), Fail> {
         ("{1}", "{1,1}", [true, true, false]),
         ("{5,-7,9}", "{5,-7,9}", [true, true, true]),
         ("{2147483647,4}", "{-2147483648,5}", [false, false, false]),
+        ("{}", "{1,2}", [false, false, false]),
+        ("{}", "{2,1}", [false, false, false]),
+        ("{}", "{3}", [false, false, false]),
+        ("{2,1}", "{2,1}", [true, true, true]),
+        ("{3}", "{2,1}", [false, false, false]),
+        ("{1,100}", "{50}", [false, false, false]),
+        ("{200}", "{50}", [false, false, false]),
+        ("{1}", "{1}", [true, true, true]),
+        ("{33}", "{1}", [false, false, false]),
+        ("{9,10,2003}", "{10}", [true, true, false]),
+        ("{33,34,2003}", "{2003,33}", [true, true, false]),
+        ("{1,2,2001,2002}", "{1,2,2001}", [true, true, false]),
+        ("{4,5,2004}", "{4,5,2004}", [true, true, true]),
     ];
     for (left, right, wants) in rows {
         let a = IntArray::read(rt.alloc(), left)?;
@@ -190,6 +220,11 @@ fn queries_over_arrays(rt: HostRuntime) -> Result<(), Fail> {
         ("007|1&2", [false, false, true, false, true]),
         ("(7|1)&2", [false, false, true, false, false]),
         ("!!2&!-3", [false, false, true, false, false]),
+        (
+            "-2147483648 | 2147483647",
+            [false, false, false, false, false],
+        ),
+        ("010 | 7", [false, false, false, false, true]),
     ];
     for (text, wants) in rows {
         let query = QueryInt::read(rt.alloc(), text)?;
@@ -200,6 +235,16 @@ fn queries_over_arrays(rt: HostRuntime) -> Result<(), Fail> {
             let array = IntArray::read(rt.alloc(), array)?;
             assert_eq!(rt; query.holds(&array), *want, "{text}");
         }
+    }
+    let query = QueryInt::read(rt.alloc(), "!1")?;
+    for (text, want) in [
+        ("{}", true),
+        ("{1,2}", false),
+        ("{2,1}", false),
+        ("{3}", true),
+    ] {
+        let array = IntArray::read(rt.alloc(), text)?;
+        assert_eq!(rt; query.holds(&array), want, "{text}");
     }
     Ok(())
 }
@@ -215,6 +260,8 @@ fn queries_that_are_refused(rt: HostRuntime) {
         ("--1", ValueError::NoValue),
         ("+1", ValueError::NoValue),
         ("1a", ValueError::NoValue),
+        ("-", ValueError::NoValue),
+        ("1\x0b", ValueError::NoValue),
         ("(1", ValueError::NoValue),
         ("1)", ValueError::NoValue),
         ("1 & & 2", ValueError::NoValue),
@@ -252,6 +299,10 @@ fn limits_of_queries(rt: HostRuntime) -> Result<(), Fail> {
         ("!", 64, "2147483648", Some(ValueError::OutOfRange)),
         ("!", 65, "2147483648", Some(ValueError::TooDeep)),
         ("(", 65, "1", Some(ValueError::TooDeep)),
+        ("(!", 32, "1", Some(ValueError::NoValue)),
+        ("(!", 32, "(1", Some(ValueError::TooDeep)),
+        ("1|2&", 512, "1", None),
+        ("1|2&", 512, "1|", Some(ValueError::TooDeep)),
         ("1|", 1024, "1", None),
         ("1|", 1025, "1", Some(ValueError::TooDeep)),
         ("1|", 1024, "2147483648|", Some(ValueError::OutOfRange)),
@@ -265,5 +316,9 @@ fn limits_of_queries(rt: HostRuntime) -> Result<(), Fail> {
             "{count} times {part}"
         );
     }
+    let open = repeated(rt.alloc(), "(!", 32, "1")?;
+    let text = format!(in rt.alloc(); "{open}{}", repeated(rt.alloc(), ")", 32, "")?)?;
+    let query = QueryInt::read(rt.alloc(), text.as_str())?;
+    assert!(rt; query.holds(&IntArray::read(rt.alloc(), "{1}")?));
     Ok(())
 }
