@@ -9,3 +9,4 @@ pub mod DigitLemmas
 mod PieceLemmas
 mod StandLemmas
 mod QueryLemmas
+mod PartLemmas

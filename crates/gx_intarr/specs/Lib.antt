@@ -5,3 +5,4 @@ pub mod Arrays
 pub mod Formula
 pub mod Pieces
 pub mod Queries
+pub mod Parts

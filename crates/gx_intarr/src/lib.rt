@@ -15,7 +15,7 @@ pub use array::IntArray;
 pub use encoding::one_encoding;
 pub use formula::{IntFormula, QueryInt};
 pub use print::printed_again;
-pub use query::one_query_answer;
+pub use query::{made_of_pieces, one_query_answer};
 pub use read::one_array_answer;
 pub use texts::{Texts, one_answer};
 

@@ -1,6 +1,6 @@
 //! The reader of queries.
 
-ghost use Rattle.std.specs.Prelude.{◌≡◌, ◌≢◌, ◌++◌, ◌∷◌, [], ℕ, List, Result, Err, IfOk, OnOk};
+ghost use Rattle.std.specs.Prelude.{◌≡◌, ◌≢◌, ◌++◌, ◌∷◌, ◌↔◌, [], ℕ, List, Result, Err, IfOk, OnOk};
 ghost use Rattle.gx_bytes.specs.declared.error.ValueError.{ValueError};
 ghost use Rattle.gx_formula.specs.Tree as shape;
 ghost use Rattle.gx_formula.specs.Grammar.{AnswersFormula};
@@ -8,7 +8,8 @@ ghost use Rattle.gx_intarr.specs.Pieces.{IsLexed};
 ghost use Rattle.gx_intarr.specs.declared.formula.QueryInt.{QueryInt};
 ghost use Rattle.gx_formula.specs.declared.token.Token.{Token};
 ghost use Rattle.gx_intarr.specs.Formula.{tree_of};
-ghost use Rattle.gx_intarr.specs.Queries.{number_at, named, probe, TellsFar, AnswersQuery, AreAlike};
+ghost use Rattle.gx_intarr.specs.Queries.{number_at, named, probe, TellsFar, SpellsQuery, AnswersQuery, AreAlike};
+ghost use Rattle.gx_intarr.specs.Parts.{IsMadeQuery};
 
 use crate::formula::{IntFormula, QueryInt};
 use crate::lexer::{Lexed, lex};
@@ -120,6 +121,12 @@ fn number_at(numbers: &[i32], place: usize) -> i32
         None => 0,
     }
 }
+
+/// A text spells a query exactly where it is made of the query's pieces, as a whole: signs and numbers with white space
+/// between them.
+pub fn made_of_pieces()
+    ensures { (text : List ℕ) (query : QueryInt) → SpellsQuery text query ↔ IsMadeQuery text query }
+{}
 
 /// A text has one answer of [`QueryInt::read`], unless memory is wanting.
 pub fn one_query_answer()
