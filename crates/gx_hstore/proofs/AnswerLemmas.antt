@@ -16,9 +16,6 @@ use Rattle.gx_hstore.proofs.OrderLemmas.{bytes_equiv}
 use Rattle.gx_hstore.proofs.MapLemmas.{distinct}
 use Rattle.gx_hstore.proofs.PairLemmas.{one_pairs, one_map}
 
-pub no_map : (text : List ℕ) → ((pairs : List Pair) → SpellsPairs text pairs → ⊥) → (hstore : List Pair) → SpellsHstore text hstore → ⊥
-no_map text none hstore s = none s.pairs s.spelled
-
 -- white space alone
 pub blank_only : (text : List ℕ) (pairs : List Pair) → SpellsPairs text pairs → length pairs ≡ 0 → 0 < length text → (hstore : List Pair) → SpellsHstore text hstore → ⊥
 blank_only text pairs spelled none some hstore s =
@@ -27,9 +24,6 @@ blank_only text pairs spelled none some hstore s =
     empty : (xs : List Pair) → length xs ≡ 0 → xs ≡ []
     empty [] e = refl
     empty (x ∷ xs) e = absurd (omega arith)
-
-pub map_of : (text : List ℕ) (pairs hstore : List Pair) → SpellsPairs text pairs → (pairs ≡ [] → text ≡ []) → IsMapOf pairs hstore → SpellsHstore text hstore
-map_of text pairs hstore spelled empty is = record { pairs = pairs; spelled = spelled; empty = empty; is = is }
 
 pub same_answer : (text : List ℕ) (r s : Result (List Pair) ValueError) → r ≢ Err Memory → s ≢ Err Memory → AnswersHstore text r → AnswersHstore text s → r ≡ s
 same_answer text (Ok a) (Ok b) m n p q = ap Ok (one_map text a b p q)

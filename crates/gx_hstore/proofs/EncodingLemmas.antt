@@ -30,9 +30,6 @@ some_field field part (count, number, is) = let some = some_varint count (length
 
 -- ---- values in front
 
-pub null_taken : (bytes rest : List ℕ) → bytes ≡ 0 ∷ rest → TakesValue bytes None rest
-null_taken bytes rest e = (0 ∷ [], refl, e)
-
 pub value_taken : (bytes inner part rest : List ℕ) → bytes ≡ 1 ∷ inner → TakesField inner part rest → TakesValue bytes (Some part) rest
 value_taken bytes inner part rest e t = (1 ∷ t.0, (t.0, t.1, refl), e ∙ ap (λ (l : List ℕ). 1 ∷ l) t.2)
 
@@ -83,9 +80,6 @@ one_value bytes (Some v) (Some w) r s t u =
     (ap Some same.1, same.2)
 
 -- ---- entries in front
-
-pub entry_taken : (bytes key behind rest : List ℕ) (value : Option (List ℕ)) → TakesField bytes key behind → TakesValue behind value rest → TakesEntry bytes (key, value) rest
-entry_taken bytes key behind rest value t u = record { key = t.0; key_is = t.1; value = u.0; value_is = u.1; parts = t.2 ∙ ap (λ (l : List ℕ). t.0 ++ l) u.2 }
 
 entry_parts : (bytes : List ℕ) (p : Pair) (rest : List ℕ) → TakesEntry bytes p rest → (behind : List ℕ) × TakesField bytes p.0 behind × TakesValue behind p.1 rest
 entry_parts bytes p rest t = (t.value ++ rest, (t.key, t.key_is, t.parts), (t.value, t.value_is, refl))
@@ -203,9 +197,6 @@ encoded_more bytes last (q ∷ pairs) p e t =
       },
       encoded_more e.0 last pairs p e.2 t,
     )
-
-pub none_appended : (old : List ℕ) → AppendsEncoded old old []
-none_appended old = ([], refl, sym (append-nil old))
 
 pub entry_appended_at : (old mid new : List ℕ) (pairs : List Pair) (i : ℕ) (p : Pair) → i < length pairs → p ≡ get_or pairs i p → AppendsEncoded old mid (take i pairs) → AppendsEntry mid new p → AppendsEncoded old new (take (i + 1) pairs)
 entry_appended_at old mid new pairs i p within is e t =

@@ -37,10 +37,6 @@ no_word_string text other none true bytes rest t = other t.0 t.1
 no_word_string text other none false bytes rest t = none bytes rest t
 
 -- no string in front, no arrow behind the key, and no string behind the arrow
-pub no_key : (text core : List ℕ) → core ≡ without_leading_blank text → ((q : Bool) (b r : List ℕ) → TakesString q core b r → ⊥) → (pair : Pair) (rest : List ℕ) → TakesPair text pair rest → ⊥
-no_key text core e none pair rest t =
-    let P : List ℕ → Type 0 = λ c. TakesString t.key_quoted c pair.0 t.behind_key in
-    none t.key_quoted pair.0 t.behind_key (subst P (sym e) t.key)
 
 -- the keys of two readings end at one place
 same_key_end : (text core : List ℕ) (q : Bool) (key after : List ℕ) → core ≡ without_leading_blank text → TakesString q core key after → (pair : Pair) (rest : List ℕ) (t : TakesPair text pair rest) → (pair.0 ≡ key) × (t.behind_key ≡ after)

@@ -1,13 +1,10 @@
 -- What a reader of a list has read: any reading of the whole goes on from there.
-use Rattle.std.proofs.Common.{◌≡◌, ℕ, List, [], ◌∷◌, ◌++◌, refl, sym, ap, ◌∙◌, subst, append_assoc, append-nil, Option, None, Some, MatchOption}
+use Rattle.std.proofs.Common.{◌≡◌, ℕ, List, [], ◌∷◌, ◌++◌, sym, ap, ◌∙◌, subst, append_assoc, append-nil, Option, None, Some, MatchOption}
 
 -- R says what a text spells; `done` is read, and `rest` comes behind it.
 pub record Continues {X : Type 0} (R : List ℕ → List X → Type 0) (text : List ℕ) (done : List X) (rest : List ℕ) : Type 0 where
   pub found : (later : List X) → R rest later → R text (done ++ later)
   pub only : (all : List X) → R text all → (later : List X) × R rest later × (all ≡ done ++ later)
-
-pub start : {X : Type 0} (R : List ℕ → List X → Type 0) (text : List ℕ) → Continues R text [] text
-start R text = record { found = λ later r. r; only = λ all r. (all, r, refl) }
 
 -- one element more
 pub step : {X : Type 0} (R : List ℕ → List X → Type 0) (text rest more : List ℕ) (done : List X) (x : X) → Continues R text done rest

@@ -98,13 +98,6 @@ no_signs q text bytes rest none goes h = go h.signs h.inside h.parts
     go (Escaped c ∷ signs) i p = none c (written signs ++ rest) (inl p)
 
 -- where no sign comes, a reading has none
-pub signs_stop : (quoted : Bool) (text bytes rest : List ℕ) → ((byte : ℕ) (after : List ℕ) → TakesSign quoted text byte after → ⊥) → TakesSigns quoted text bytes rest → (bytes ≡ []) × (rest ≡ text)
-signs_stop q text bytes rest none h = go h.signs h.inside h.parts h.value
-  where
-    go : (signs : List Sign) → AreInside q signs → text ≡ written signs ++ rest → bytes ≡ meant signs → (bytes ≡ []) × (rest ≡ text)
-    go [] i p v = (v, sym p)
-    go (Plain c ∷ signs) i p v = absurd (none c (written signs ++ rest) (inr (p, i.0, i.1)))
-    go (Escaped c ∷ signs) i p v = absurd (none c (written signs ++ rest) (inl p))
 
 -- ---- strings
 

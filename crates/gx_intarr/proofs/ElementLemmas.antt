@@ -63,9 +63,6 @@ pub record HasSigns (inside text rest : List ℕ) : Type 0 where
   pub parts : inside ≡ signs_text signs ++ rest
   pub value : text ≡ bytes_of signs
 
-pub no_signs : (inside : List ℕ) → HasSigns inside [] inside
-no_signs inside = record { signs = []; each = tt; parts = refl; value = refl }
-
 pub more_signs : (inside text next rest after : List ℕ) (byte : ℕ) → HasSigns inside text rest → TakesSign rest byte after → next ≡ text ++ byte ∷ [] → HasSigns inside next after
 more_signs inside text next rest after byte h t e =
     let s : Sign = record { escaped = t.escaped; byte = byte } in
@@ -75,21 +72,6 @@ more_signs inside text next rest after byte h t e =
       parts = h.parts ∙ ap (λ (x : List ℕ). signs_text h.signs ++ x) t.parts ∙ sym (signs_text-push h.signs s after);
       value = e ∙ ap (λ (x : List ℕ). x ++ byte ∷ []) h.value ∙ sym (bytes_of-push h.signs s);
     }
-
-written_length : (e : Bool) (b : ℕ) (rest : List ℕ) → length rest < length (written e b ++ rest)
-written_length true b rest = omega arith
-written_length false b rest = omega arith
-
-pub sign_shorter : (text rest : List ℕ) (byte : ℕ) → TakesSign text byte rest → length rest < length text
-sign_shorter text rest byte t = omega (arith, written_length t.escaped byte rest, ap length t.parts)
-
-pub quoted_ends : (inside text rest after : List ℕ) → HasSigns inside text rest → rest ≡ 34 ∷ after → TakesQuoted inside text after
-quoted_ends inside text rest after h e = record {
-  signs = h.signs;
-  each = h.each;
-  parts = h.parts ∙ ap (λ (x : List ℕ). signs_text h.signs ++ x) e;
-  value = h.value;
-}
 
 pub quoted_breaks : (inside text rest : List ℕ) → HasSigns inside text rest → NoSign rest → ((after : List ℕ) → rest ≢ 34 ∷ after) → (other after : List ℕ) → TakesQuoted inside other after → ⊥
 quoted_breaks inside text rest h none unquoted other after t =
@@ -107,13 +89,6 @@ one_bareword bytes a b x y s t =
     (s.is_bareword.core ∙ ap core_of same.0 ∙ sym t.is_bareword.core, same.1)
 
 -- the run of n plain bytes, where something is left of it that isn't NULL
-pub takes_run : (n : ℕ) (bytes raw core rest : List ℕ) → raw ≡ take n bytes → rest ≡ drop n bytes → core ≡ core_of raw → Pass is_plain (take n bytes) → Stops is_plain (drop n bytes) → 0 < length core → (IsNullWord core → ⊥) → TakesBareword bytes core rest
-takes_run n bytes raw core rest e f is run stops some full = record {
-  raw = raw;
-  parts = sym (take-append-drop n bytes) ∙ ap₂ (λ (x y : List ℕ). x ++ y) (sym e) (sym f);
-  is_bareword = record { plain = subst (Pass is_plain) (sym e) run; core = is; some = some; not_null = full };
-  stops = subst (Stops is_plain) (sym f) stops;
-}
 
 -- where nothing is left of it, or NULL, no element without quotes stands there
 pub no_run : (n : ℕ) (bytes raw core : List ℕ) → raw ≡ take n bytes → core ≡ core_of raw → Pass is_plain (take n bytes) → Stops is_plain (drop n bytes) → ((0 < length core) → (IsNullWord core → ⊥) → ⊥) → (text rest : List ℕ) → TakesBareword bytes text rest → ⊥

@@ -47,9 +47,6 @@ pub record HasItems (bytes : List ℕ) (items : List ℤ) (rest : List ℕ) : Ty
   pub valid : IsArray items
   pub parts : bytes ≡ items_bytes items ++ rest
 
-pub no_items : (bytes : List ℕ) → HasItems bytes [] bytes
-no_items bytes = record { valid = tt; parts = refl }
-
 array-push : (items : List ℤ) (n : ℤ) → IsArray items → IsInt4 n → IsArray (items ++ n ∷ [])
 array-push [] n p q = (q, tt)
 array-push (m ∷ items) n p q = (p.0, array-push items n p.1 q)
@@ -58,19 +55,6 @@ items_bytes-push : (items : List ℤ) (n : ℤ) (rest : List ℕ) → items_byte
 items_bytes-push [] n rest = ap (λ (x : List ℕ). x ++ rest) (append-nil (number_bytes n))
 items_bytes-push (m ∷ items) n rest =
     append_assoc (number_bytes m) (items_bytes (items ++ n ∷ [])) rest ∙ ap (λ (x : List ℕ). number_bytes m ++ x) (items_bytes-push items n rest) ∙ sym (append_assoc (number_bytes m) (items_bytes items) (number_bytes n ++ rest))
-
-pub more_items : (bytes rest after : List ℕ) (items next : List ℤ) (n : ℤ) → HasItems bytes items rest → IsInt4 n → rest ≡ number_bytes n ++ after → next ≡ items ++ n ∷ [] → HasItems bytes next after
-more_items bytes rest after items next n h w e f = record {
-  valid = subst IsArray (sym f) (array-push items n h.valid w);
-  parts = h.parts ∙ ap (λ (x : List ℕ). items_bytes items ++ x) e ∙ sym (items_bytes-push items n after) ∙ ap (λ (x : List ℤ). items_bytes x ++ after) (sym f);
-}
-
-pub number_shorter : (n : ℤ) (rest after : List ℕ) → rest ≡ number_bytes n ++ after → length after < length rest
-number_shorter n rest after e = omega (arith, ap length e, length-number n after)
-
-pub items_end : (bytes rest : List ℕ) (items : List ℤ) → HasItems bytes items rest → length rest ≡ 0 → IsArray items × (bytes ≡ items_bytes items)
-items_end bytes [] items h e = (h.valid, h.parts ∙ append-nil (items_bytes items))
-items_end bytes (c ∷ rest) items h e = absurd (omega arith)
 
 -- where one to three bytes are left, the bytes are no numbers
 pub bytes_left : (bytes rest : List ℕ) (items : List ℤ) → HasItems bytes items rest → 0 < length rest → length rest < 4 → (others : List ℤ) → bytes ≡ items_bytes others → ⊥
@@ -102,7 +86,3 @@ other_count bytes rest n len found v e f ne items valid s =
     let same = behind_count bytes n len items v s in
     let all : items_bytes found ≡ items_bytes items = sym f ∙ e ∙ same.1 in
     ne (omega (arith, ap length all, length-items found, length-items items, same.0))
-
-pub is_encoding : (bytes rest : List ℕ) (n len : ℕ) (found : List ℤ) → IsVarint (take len bytes) n → rest ≡ drop len bytes → rest ≡ items_bytes found → length found ≡ n → IsEncoding bytes found
-is_encoding bytes rest n len found v e f same =
-    (take len bytes, subst (IsVarint (take len bytes)) (sym same) v, sym (take-append-drop len bytes) ∙ ap (λ (x : List ℕ). take len bytes ++ x) (sym e ∙ f))

@@ -153,9 +153,6 @@ left_some : (b : Bool) (left n : ℕ) → (if b then n + 1 else n) ≤ left → 
 left_some true left n le = (λ e. omega (arith, le), omega (arith, le))
 left_some false left n le = (λ e. cc, le)
 
-none_left : (left n : ℕ) → n ≤ left → n ≤ left
-none_left left n le = le
-
 -- the sign at the front of a text
 sign_front : (core : List ℕ) (t : Token) → sign_at core ≡ Some t → (c : ℕ) × (core ≡ c ∷ drop 1 core) × (sign_of c ≡ Some t)
 sign_front [] t h = cc

@@ -1,5 +1,5 @@
 -- One list of pieces to a text, and one answer.
-use Rattle.std.proofs.Common.{◌≡◌, ◌≢◌, ℕ, zero, suc, ◌+◌, ◌<◌, Bool, true, false, List, [], ◌∷◌, ◌++◌, length, take, drop, None, Some, Result, Ok, Err, OnOk, is_err, ℤ, refl, sym, ap, ap₂, ◌∙◌, subst, arith, true≢false, append_assoc, length-append}
+use Rattle.std.proofs.Common.{◌≡◌, ◌≢◌, ℕ, ◌<◌, Bool, true, false, List, [], ◌∷◌, ◌++◌, length, drop, None, Some, Result, Ok, Err, OnOk, is_err, ℤ, refl, sym, ap, ap₂, ◌∙◌, subst, arith, true≢false}
 use Rattle.gx_bytes.specs.Blanks.{without_leading_blank}
 use Rattle.gx_bytes.specs.Wholes.{SpellsWhole, IsOutside}
 use Rattle.gx_bytes.specs.declared.error.ValueError.{ValueError}
@@ -220,21 +220,7 @@ alike text (Err TooDeep) (Err TooDeep) m n a b = refl
 alike text (Err Memory) s m n a b = absurd (m refl)
 alike text r (Err Memory) m n a b = absurd (n refl)
 
-last_left : (front xs : List Token) (w : Token) (n : ℕ) → xs ≡ front ++ w ∷ [] → n + 1 ≡ length xs → take n xs ≡ front
-last_left front xs w n e size = ap (take n) e ∙ go front n (size ∙ ap length e)
-  where
-    go : (front : List Token) (n : ℕ) → n + 1 ≡ length (front ++ w ∷ []) → take n (front ++ w ∷ []) ≡ front
-    go [] zero s = refl
-    go [] (suc n) s = absurd (omega arith)
-    go (t ∷ front) zero s = absurd (omega (arith, length-append front (w ∷ [])))
-    go (t ∷ front) (suc n) s = ap (λ (x : List Token). t ∷ x) (go front n (omega arith))
-
 -- the probe in place of the last token
-pub probed : (old popped one new front : List Token) (n : ℕ) → popped ≡ take n old → (0 < length old → n + 1 ≡ length old) → one ≡ popped ++ token.Word 0 ∷ [] → new ≡ one ++ token.TooMany ∷ [] → old ≡ front ++ token.Other ∷ [] → new ≡ probe front
-probed old popped one new front n e size f g is =
-    let some : 0 < length old = omega (arith, ap length is, length-append front (token.Other ∷ [])) in
-    let left : popped ≡ front = e ∙ last_left front old token.Other n is (size some) in
-    g ∙ ap (λ (x : List Token). x ++ token.TooMany ∷ []) (f ∙ ap (λ (x : List Token). x ++ token.Word 0 ∷ []) left) ∙ append_assoc front (token.Word 0 ∷ []) (token.TooMany ∷ [])
 
 pub spelled_tells : (front tokens : List Token) (form : shape.Tree) → tokens ≡ probe front → SpellsFormula tokens form → TellsFar front NoValue
 spelled_tells front tokens form e s deep = not_both tokens form s (subst IsTooDeep (sym e) deep)

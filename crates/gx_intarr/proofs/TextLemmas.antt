@@ -1,5 +1,5 @@
 -- The elements of an array text, as they are read.
-use Rattle.std.proofs.Common.{◌≡◌, ◌≢◌, ℕ, ◌<◌, List, [], ◌∷◌, ◌++◌, length, Result, Ok, Err, refl, sym, ap, ap₂, ◌∙◌, subst, arith, length-append}
+use Rattle.std.proofs.Common.{◌≡◌, ◌≢◌, ℕ, List, [], ◌∷◌, ◌++◌, Result, Ok, Err, refl, sym, ap, ap₂, ◌∙◌, subst, arith}
 use Rattle.std.specs.List.{AllZip, AllByRecursion}
 use Rattle.std.proofs.lemmas.List.Elements.{AllZip-push}
 use Rattle.gx_bytes.specs.Blanks.{core_of}
@@ -117,11 +117,6 @@ reads_more text rest x after more done next h takes comma e =
       each = subst (AllZip SpellsElement (h.raws ++ t.0 ∷ [])) (sym e) (AllZip-push SpellsElement h.raws done t.0 x h.each t.2);
     }
 
-pub take_shorter : (rest x after more : List ℕ) → TakesElement rest x after → after ≡ 44 ∷ more → length more < length rest
-take_shorter rest x after more takes comma =
-    let t = takes_spelled rest x after takes in
-    omega (arith, ap length t.1, length-append t.0 after, ap length comma)
-
 -- the braces round the elements
 pub in_braces : (text body : List ℕ) (texts : List (List ℕ)) → core_of text ≡ 123 ∷ body → SpellsElements body texts → SpellsTexts text texts
 in_braces text body texts e s = record { raws = s.raws; parts = go s.raws s.parts; each = s.each }
@@ -132,9 +127,6 @@ in_braces text body texts e s = record { raws = s.raws; parts = go s.raws s.part
         let all : 44 ∷ body ≡ 44 ∷ (raw ++ closed raws) = p in
         let same : body ≡ raw ++ closed raws = cc in
         e ∙ ap (λ (x : List ℕ). 123 ∷ x) same
-
-pub no_texts : (text : List ℕ) (body : List ℕ) → core_of text ≡ 123 ∷ body → body ≡ 125 ∷ [] → SpellsTexts text []
-no_texts text body e f = record { raws = []; parts = e ∙ ap (λ (x : List ℕ). 123 ∷ x) f; each = tt }
 
 pub behind_brace : (text body : List ℕ) (texts : List (List ℕ)) → core_of text ≡ 123 ∷ body → (body ≡ 125 ∷ [] → ⊥) → SpellsTexts text texts → SpellsElements body texts
 behind_brace text body texts e full s = record { raws = s.raws; parts = go s.raws s.parts; each = s.each }
@@ -156,13 +148,6 @@ answers_elements text body (Err NoValue) e full a = λ texts s. a texts (behind_
 answers_elements text body (Err OutOfRange) e full a = a
 answers_elements text body (Err TooDeep) e full a = a
 answers_elements text body (Err Memory) e full a = tt
-
-pub no_opening : (text : List ℕ) → ((rest : List ℕ) → core_of text ≢ 123 ∷ rest) → (texts : List (List ℕ)) → SpellsTexts text texts → ⊥
-no_opening text none texts s = go s.raws s.parts
-  where
-    go : (raws : List (List ℕ)) → core_of text ≡ braced raws → ⊥
-    go [] p = none (125 ∷ []) p
-    go (raw ∷ raws) p = none (raw ++ closed raws) p
 
 one_closed : (raws texts others as' : List (List ℕ)) → AllZip SpellsElement raws texts → AllZip SpellsElement others as' → closed raws ≡ closed others → texts ≡ as'
 one_closed [] [] [] [] p q e = refl
