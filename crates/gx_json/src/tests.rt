@@ -24,8 +24,28 @@ fn nested(
     Ok(text)
 }
 
+/// Whether the document of the text has this printed text and these bytes, and both are read as the same document again.
+fn is_written_so(alloc: Global, text: &str, want: &str, want_bytes: &str) -> Result<bool, Fail> {
+    let json = Json::read(alloc, text)?;
+    let mut printed = Bytes::new(alloc);
+    json.print(&mut printed)?;
+    let mut bytes = Bytes::new(alloc);
+    json.encode(&mut bytes)?;
+    let mut again = Bytes::new(alloc);
+    Json::read(alloc, want)?.encode(&mut again)?;
+    let decoded = Json::decode(alloc, bytes.as_slice())?.ok_or("no document")?;
+    let mut last = Bytes::new(alloc);
+    decoded.print(&mut last)?;
+    Ok(
+        printed.as_slice() == want.as_bytes()
+            && bytes.as_slice() == want_bytes.as_bytes()
+            && again.as_slice() == want_bytes.as_bytes()
+            && last.as_slice() == want.as_bytes(),
+    )
+}
+
 #[test]
-fn texts_and_what_is_printed(rt: HostRuntime) -> Result<(), Fail> {
+fn scalars(rt: HostRuntime) -> Result<(), Fail> {
     // The text, the printed text, and the bytes.
     let rows = [
         ("null", "null", "null"),
@@ -42,12 +62,58 @@ fn texts_and_what_is_printed(rt: HostRuntime) -> Result<(), Fail> {
             "-9223372036854775808",
             "-9223372036854775808",
         ),
+    ];
+    for (text, want, want_bytes) in rows {
+        assert!(rt;
+            is_written_so(rt.alloc(), text, want, want_bytes)?,
+            "at {text}"
+        );
+    }
+    Ok(())
+}
+
+#[test]
+fn strings(rt: HostRuntime) -> Result<(), Fail> {
+    // The text, the printed text, and the bytes.
+    let rows = [
         (
             "\"9223372036854775808\"",
             "\"9223372036854775808\"",
             "\"9223372036854775808\"",
         ),
         ("\"\"", "\"\"", "\"\""),
+        ("\"foo\"", "\"foo\"", "\"foo\""),
+        ("\"\\u0041\\/\\u00e9\"", "\"A/é\"", "\"A/é\""),
+        (
+            "\"\\\"\\\\\\b\\f\\n\\r\\t\"",
+            "\"\\\"\\\\\\b\\f\\n\\r\\t\"",
+            "\"\\\"\\\\\\b\\f\\n\\r\\t\"",
+        ),
+        (
+            "\"\\u0001\\u001F\\u007f\"",
+            "\"\\u0001\\u001f\x7f\"",
+            "\"\\u0001\\u001f\x7f\"",
+        ),
+        ("\"\\ud83d\\ude00\"", "\"😀\"", "\"😀\""),
+        (
+            "\"[[{{1.5 01 \\\\\"",
+            "\"[[{{1.5 01 \\\\\"",
+            "\"[[{{1.5 01 \\\\\"",
+        ),
+    ];
+    for (text, want, want_bytes) in rows {
+        assert!(rt;
+            is_written_so(rt.alloc(), text, want, want_bytes)?,
+            "at {text}"
+        );
+    }
+    Ok(())
+}
+
+#[test]
+fn arrays_and_objects(rt: HostRuntime) -> Result<(), Fail> {
+    // The text, the printed text, and the bytes.
+    let rows = [
         ("[]", "[]", "[]"),
         ("{ }", "{}", "{}"),
         (
@@ -77,6 +143,23 @@ fn texts_and_what_is_printed(rt: HostRuntime) -> Result<(), Fail> {
             "{\"id\": 7, \"tags\": [\"t7\"]}",
             "{\"id\":7,\"tags\":[\"t7\"]}",
         ),
+        ("[\"foo\"]", "[\"foo\"]", "[\"foo\"]"),
+        ("{\"k\":2}", "{\"k\": 2}", "{\"k\":2}"),
+        ("[\"k\"]", "[\"k\"]", "[\"k\"]"),
+    ];
+    for (text, want, want_bytes) in rows {
+        assert!(rt;
+            is_written_so(rt.alloc(), text, want, want_bytes)?,
+            "at {text}"
+        );
+    }
+    Ok(())
+}
+
+#[test]
+fn orders_of_keys_and_equal_keys(rt: HostRuntime) -> Result<(), Fail> {
+    // The text, the printed text, and the bytes.
+    let rows = [
         (
             "{\"bb\":1,\"a\":2,\"B\":3,\"\":4}",
             "{\"\": 4, \"B\": 3, \"a\": 2, \"bb\": 1}",
@@ -92,10 +175,6 @@ fn texts_and_what_is_printed(rt: HostRuntime) -> Result<(), Fail> {
             "{\"z\": 3, \"é\": 1, \"zzz\": 2}",
             "{\"z\":3,\"zzz\":2,\"é\":1}",
         ),
-        ("[\"foo\"]", "[\"foo\"]", "[\"foo\"]"),
-        ("\"foo\"", "\"foo\"", "\"foo\""),
-        ("{\"k\":2}", "{\"k\": 2}", "{\"k\":2}"),
-        ("[\"k\"]", "[\"k\"]", "[\"k\"]"),
         ("{\"a\":1,\"a\":2}", "{\"a\": 2}", "{\"a\":2}"),
         (
             "[{\"a\":1,\"b\":{\"c\":1,\"c\":2},\"a\":3}]",
@@ -108,40 +187,12 @@ fn texts_and_what_is_printed(rt: HostRuntime) -> Result<(), Fail> {
             "{\"a\":[2],\"b\":{}}",
         ),
         ("{\"a\":\"\\u0000\",\"a\":1}", "{\"a\": 1}", "{\"a\":1}"),
-        ("\"\\u0041\\/\\u00e9\"", "\"A/é\"", "\"A/é\""),
-        (
-            "\"\\\"\\\\\\b\\f\\n\\r\\t\"",
-            "\"\\\"\\\\\\b\\f\\n\\r\\t\"",
-            "\"\\\"\\\\\\b\\f\\n\\r\\t\"",
-        ),
-        (
-            "\"\\u0001\\u001F\\u007f\"",
-            "\"\\u0001\\u001f\x7f\"",
-            "\"\\u0001\\u001f\x7f\"",
-        ),
-        ("\"\\ud83d\\ude00\"", "\"😀\"", "\"😀\""),
-        (
-            "\"[[{{1.5 01 \\\\\"",
-            "\"[[{{1.5 01 \\\\\"",
-            "\"[[{{1.5 01 \\\\\"",
-        ),
     ];
     for (text, want, want_bytes) in rows {
-        let json = Json::read(rt.alloc(), text)?;
-        let mut printed = Bytes::new(rt.alloc());
-        json.print(&mut printed)?;
-        assert!(rt; printed.as_slice() == want.as_bytes(), "at {text}");
-        let mut bytes = Bytes::new(rt.alloc());
-        json.encode(&mut bytes)?;
-        assert!(rt; bytes.as_slice() == want_bytes.as_bytes(), "at {text}");
-        // The printed text reads back as the same document: its bytes are the same.
-        let mut again = Bytes::new(rt.alloc());
-        Json::read(rt.alloc(), want)?.encode(&mut again)?;
-        assert!(rt; again.as_slice() == want_bytes.as_bytes(), "at {text}");
-        let decoded = Json::decode(rt.alloc(), bytes.as_slice())?.ok_or("no document")?;
-        let mut last = Bytes::new(rt.alloc());
-        decoded.print(&mut last)?;
-        assert!(rt; last.as_slice() == want.as_bytes(), "at {text}");
+        assert!(rt;
+            is_written_so(rt.alloc(), text, want, want_bytes)?,
+            "at {text}"
+        );
     }
     Ok(())
 }
