@@ -1,2 +1,3 @@
+mod Mixing
 mod Picking
 mod Written

@@ -73,6 +73,7 @@ pub trait Disk {
         ensures images { OnOk result (tells → Follows (SyncedIn area (told self.old)) (now_may_leave self.old) (now_may_leave self.new)) }
         ensures reached { OnOk result (tells → Reaches (SyncedIn area (told self.old)) (now_may_leave self.old) (now_may_leave self.new)) }
         ensures same { OnErr result ((c : Image) → now_may_leave self.new c ↔ now_may_leave self.old c) }
+        ensures fewer { tells → Keeps (now_may_leave self.new) (now_may_leave self.old) }
         ensures told { told self.new ≡ told self.old }
         ensures time { Elapses (moment self.old) (moment self.new) (may_have_left_since self.old) (may_have_left_since self.new) (Now (now_may_leave self.new) (said self.old).bytes) }
         ensures said { said self.new ≡ said self.old }

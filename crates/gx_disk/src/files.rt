@@ -8,9 +8,10 @@ use gx_bytes::NoMemory;
 use gx_io::Failed;
 use std::alloc::Global;
 use std::fs::{OpenFile, OpenOptions};
-use std::io;
 use std::io::{Read, Seek, SeekFrom, Write};
+use std::path::Path;
 use std::rt::Files;
+use std::{fs, io};
 
 /// Two files, for the pages and for the log, and standard output. It opens or makes each file at the first call that
 /// needs it. It tells nothing of their content: this is the edge that is trusted.
@@ -43,13 +44,30 @@ impl<'r, R: Files + Print> FilesHost<'r, R> {
     }
 }
 
-// Opens the file, and makes it where there is none.
+// Opens the file, and makes it where there is none. Then its folder is synced too, so that the file's name is on the
+// disk; a file whose folder can't be synced is taken back.
 fn open<R: Files>(rt: &R, path: &str) -> io::Result<R::File> {
+    let made = !fs::exists(rt, path)?;
     let mut how = OpenOptions::new();
     how.read(true);
     how.write(true);
     how.create(true);
-    how.open(rt, path)
+    let file = how.open(rt, path)?;
+    if made && let Err(fault) = sync_folder(rt, path) {
+        fs::remove_file(rt, path)?;
+        return Err(fault);
+    }
+    Ok(file)
+}
+
+// Syncs the folder of a file.
+fn sync_folder<R: Files>(rt: &R, path: &str) -> io::Result<()> {
+    let folder = match Path::new(path).parent() {
+        Some(folder) => folder.as_str(),
+        None => "",
+    };
+    let folder = fs::open(rt, if folder.is_empty() { "." } else { folder })?;
+    folder.sync_all()
 }
 
 fn size_of_file<R: Files>(rt: &R, path: &str, slot: &mut Option<R::File>) -> io::Result<u64> {
@@ -121,7 +139,7 @@ fn sync_file<R: Files>(rt: &R, path: &str, slot: &mut Option<R::File>) -> io::Re
         Some(file) => file,
         None => open(rt, path)?,
     };
-    let synced = file.sync_all();
+    let synced = file.sync_data();
     *slot = Some(file);
     synced
 }

@@ -15,6 +15,3 @@ pub use disk::{Disk, Host};
 pub use files::FilesHost;
 pub use image::{Image, Pick};
 pub use memory::MemoryHost;
-
-#[cfg(test)]
-mod tests;

@@ -3,7 +3,7 @@
 mod crash;
 
 ghost use Rattle.std.specs.Prelude.{◌≡◌, ◌≢◌, ℕ, ◌+◌, ◌-◌, ◌^◌, ◌<◌, ◌≤◌, ◌↔◌, [], ◌∷◌, ◌++◌, length, take, drop, min, reverse, IsTrue, IfOk, OnOk, OnErr};
-ghost use Rattle.gx_words.specs.Causes.{FailsWith, Said};
+ghost use Rattle.gx_words.specs.Causes.{FailsWith, Rose, Said};
 ghost use Rattle.gx_words.specs.Image.{Image};
 ghost use Rattle.gx_words.specs.Moments.{Moment, Follows, Reaches, Keeps, Now, Saying, Elapses};
 ghost use Rattle.gx_disk.specs.Areas.{area_of, TornIn, write_in, SyncedIn};
@@ -266,6 +266,9 @@ impl Disk for MemoryHost {
         ensures images { Follows (TornIn area at (length bytes.now)) (host_leaves self.old) (host_leaves self.new) }
         ensures reached { OnOk result (Reaches (TornIn area at (length bytes.now)) (host_leaves self.old) (host_leaves self.new)) }
         ensures kept { Keeps (host_leaves self.old) (host_leaves self.new) }
+
+        // A write that fails is kept as a torn one, unless the host has no memory.
+        ensures torn_one { OnErr result (¬ Rose self.old.refused self.new.refused → Reaches (TornIn area at (length bytes.now)) (host_leaves self.old) (host_leaves self.new)) }
         ensures time { Elapses (host_moment self.old) (host_moment self.new) (host_since self.old) (host_since self.new) (Now (host_leaves self.new) self.old.answered) }
         ensures said { host_said self.new ≡ host_said self.old }
         ensures cause { FailsWith self.old.faults self.new.faults result }
@@ -309,6 +312,7 @@ impl Disk for MemoryHost {
         ensures images { OnOk result (Unit {0} → Follows (SyncedIn area (host_told self.old)) (host_leaves self.old) (host_leaves self.new)) }
         ensures reached { OnOk result (Unit {0} → Reaches (SyncedIn area (host_told self.old)) (host_leaves self.old) (host_leaves self.new)) }
         ensures same { OnErr result ((c : Image) → host_leaves self.new c ↔ host_leaves self.old c) }
+        ensures fewer { Unit {0} → Keeps (host_leaves self.new) (host_leaves self.old) }
         ensures told { host_told self.new ≡ host_told self.old }
         ensures time { Elapses (host_moment self.old) (host_moment self.new) (host_since self.old) (host_since self.new) (Now (host_leaves self.new) self.old.answered) }
         ensures said { host_said self.new ≡ host_said self.old }

@@ -1,9 +1,11 @@
 -- What follows from the spelling of records: lengths, and that one log has one list of counted records.
-use Rattle.std.proofs.Common.{◌≡◌, ◌≢◌, ℕ, ◌+◌, ◌*◌, List, [], ◌∷◌, ◌++◌, length, take, drop, refl, sym, ◌∙◌, ap, arith, length-append, append_assoc}
+use Rattle.std.proofs.Common.{◌≡◌, ◌≢◌, ℕ, ◌+◌, ◌*◌, ◌≤◌, List, [], ◌∷◌, ◌++◌, length, take, drop, refl, sym, ◌∙◌, ap, arith, length-append, append_assoc}
+use Rattle.std.specs.Prelude.{Box}
+use Rattle.std.specs.declared.alloc.Global.{Global}
 use Rattle.std.specs.List.{flat_map, AllByRecursion}
 use Rattle.std.proofs.lemmas.List.{take_at, drop_at, append-nil, length-map}
 use Rattle.gx_bytes.specs.Fields.{le64, length-le64, le64-same}
-use Rattle.gx_log.specs.Records.{Record, IsEntry, IsRecord, entry_bytes, body, opened, Stands, record_of}
+use Rattle.gx_log.specs.Records.{Record, IsEntry, IsRecord, entry_bytes, body, opened, Stands, entries_in, record_of}
 
 -- two fronts of one length
 pub fronts_split : (a b x y : List ℕ) → length a ≡ length b → a ++ x ≡ b ++ y → (a ≡ b) × (x ≡ y)
@@ -93,23 +95,33 @@ pub sound_push : (records : List Record) (entries : Record) → AllByRecursion I
 sound_push [] entries sound is = (is, tt)
 sound_push (a ∷ records) entries sound is = (sound.0, sound_push records entries sound.1 is)
 
-pub whole_push : (done : List (ℕ × List ℕ)) (image : ℕ × List ℕ) → AllByRecursion IsEntry (record_of done) → length image.1 ≡ 8192 → AllByRecursion IsEntry (record_of (done ++ image ∷ []))
+pub whole_push : (done : List (ℕ × Box (List ℕ) Global)) (image : ℕ × Box (List ℕ) Global) → AllByRecursion IsEntry (record_of done) → length image.1.value ≡ 8192 → AllByRecursion IsEntry (record_of (done ++ image ∷ []))
 whole_push [] image whole size = ((length-le64 image.0, size), tt)
 whole_push (a ∷ done) image whole size = (whole.0, whole_push done image whole.1 size)
 
-pub entries_push : (done : List (ℕ × List ℕ)) (image : ℕ × List ℕ) → entries_bytes (record_of (done ++ image ∷ [])) ≡ entries_bytes (record_of done) ++ (le64 image.0 ++ image.1)
-entries_push [] image = append-nil (le64 image.0 ++ image.1)
+pub entries_push : (done : List (ℕ × Box (List ℕ) Global)) (image : ℕ × Box (List ℕ) Global) → entries_bytes (record_of (done ++ image ∷ [])) ≡ entries_bytes (record_of done) ++ (le64 image.0 ++ image.1.value)
+entries_push [] image = append-nil (le64 image.0 ++ image.1.value)
 entries_push (a ∷ done) image =
-    ap (λ (l : List ℕ). le64 a.0 ++ a.1 ++ l) (entries_push done image) ∙ sym (append_assoc (le64 a.0 ++ a.1) (entries_bytes (record_of done)) (le64 image.0 ++ image.1))
+    ap (λ (l : List ℕ). le64 a.0 ++ a.1.value ++ l) (entries_push done image) ∙ sym (append_assoc (le64 a.0 ++ a.1.value) (entries_bytes (record_of done)) (le64 image.0 ++ image.1.value))
 
-pub length-record_of : (images : List (ℕ × List ℕ)) → length (record_of images) ≡ length images
-length-record_of images = length-map images (λ (image : ℕ × List ℕ). (le64 image.0, image.1))
+pub length-record_of : (images : List (ℕ × Box (List ℕ) Global)) → length (record_of images) ≡ length images
+length-record_of images = length-map images (λ (image : ℕ × Box (List ℕ) Global). (le64 image.0, image.1.value))
 
-pub body_of : (images : List (ℕ × List ℕ)) → body (record_of images) ≡ le64 (length images) ++ entries_bytes (record_of images)
+pub body_of : (images : List (ℕ × Box (List ℕ) Global)) → body (record_of images) ≡ le64 (length images) ++ entries_bytes (record_of images)
 unfolding body
 body_of images = ap (λ (n : ℕ). le64 n ++ entries_bytes (record_of images)) (length-record_of images)
 
+pub entries_in-push : (records : List Record) (entries : Record) → entries_in (records ++ entries ∷ []) ≡ entries_in records + length entries
+entries_in-push [] entries = omega arith
+entries_in-push (a ∷ records) entries = omega (arith, entries_in-push records entries)
+
+-- records have so many entries at most as their bytes have room for
+pub entries_in-opened : (records : List Record) → AllByRecursion IsRecord records → 8200 * entries_in records ≤ length (opened records)
+entries_in-opened [] sound = omega arith
+entries_in-opened (a ∷ records) sound =
+    omega (arith, length-append (body a) (opened records), length-body a sound.0.whole, entries_in-opened records sound.1)
+
 -- how many bytes the count and the entries so far take
-pub length_so_far : (n : ℕ) (done : List (ℕ × List ℕ)) → AllByRecursion IsEntry (record_of done) → length (le64 n ++ entries_bytes (record_of done)) ≡ 8 + 8200 * length done
+pub length_so_far : (n : ℕ) (done : List (ℕ × Box (List ℕ) Global)) → AllByRecursion IsEntry (record_of done) → length (le64 n ++ entries_bytes (record_of done)) ≡ 8 + 8200 * length done
 length_so_far n done whole =
     omega (arith, length-append (le64 n) (entries_bytes (record_of done)), length-le64 n, length-entries (record_of done) whole, length-record_of done)

@@ -2,7 +2,6 @@
 use Rattle.std.proofs.Common.{◌≡◌, ◌≢◌, ◌⊎◌, inl, inr, ℕ, ◌+◌, ◌*◌, ◌<◌, ◌≤◌, ◌^◌, List, [], ◌∷◌, ◌++◌, length, take, drop, get_or, refl, sym, ◌∙◌, ap, subst, arith, append_assoc, length-append, length-drop, length-take-le, take-append-drop}
 use Rattle.std.specs.List.{AllByRecursion}
 use Rattle.std.proofs.lemmas.List.{take_all, drop-drop, drop_more, append-nil, take_at}
-use Rattle.gx_words.specs.Causes.{Rose}
 use Rattle.gx_bytes.specs.Fields.{le64, length-le64, le64-same}
 use Rattle.gx_log.specs.Broken.{IsBroken, HasCause, capped}
 use Rattle.gx_log.specs.Places.{IsShut, IsOpen, PlaceBroken, PlaceCause, cut}
@@ -16,9 +15,6 @@ use Rattle.gx_log.proofs.Cutting.{take_join, length-cut, cut_entries, cut_bytes}
 pub record SoFar (log : List ℕ) (place : ℕ) (records : List Record) : Type 0 where
   pub bytes : take place log ≡ opened records
   pub sound : AllByRecursion IsRecord records
-
-pub at_start : (log : List ℕ) → SoFar log 0 []
-at_start log = record { bytes = refl; sound = tt }
 
 -- the log is what was found, one byte, and the rest
 split_at : (log : List ℕ) (place : ℕ) (records : List Record) → SoFar log place records → place < length log → log ≡ opened records ++ get_or log place 0 ∷ drop (place + 1) log
@@ -127,10 +123,6 @@ not_standing log place expected found records (inr short) stands =
     no_gate stands.gate stands.rest parts.more parts.bytes
 
 -- the causes of the errors on the way
-pub fault_cause : (e : LogError) (before mid now : ℕ) (tells : Type 0) (log : List ℕ) (memory : Type 0) → e ≡ DiskFault → before ≤ mid → Rose mid now → HasCause before now tells log memory e
-fault_cause e before mid now tells log memory is le rose =
-    let here : Rose before now = omega (arith, le, rose) in subst (λ (f : LogError). HasCause before now tells log memory f) (sym is) here
-
 pub place_cause : (e : LogError) (before mid now : ℕ) (tells : Type 0) (log there : List ℕ) (place size : ℕ) (memory : Type 0) → before ≤ mid → there ≡ log → (tells → size ≡ length log)
     → (tells → (records : List Record) × SoFar log place records) → PlaceCause mid now tells there place size e → HasCause before now tells log memory e
 place_cause DiskFault before mid now tells log there place size memory le same known so_far rose = omega (arith, le, rose)

@@ -1,5 +1,7 @@
 -- How images are laid over others, entry by entry and record by record.
 use Rattle.std.proofs.Common.{◌≡◌, ◌⊎◌, inl, inr, ◌<◌, ◌^◌, ◌≤◌, ℕ, ◌+◌, ◌*◌, List, [], ◌∷◌, ◌++◌, Option, Some, Bool, true, false, cond, nat_lt, ◌==◌, ◌&&◌, take, drop, refl, sym, ◌∙◌, ap, arith, eq-eqb}
+use Rattle.std.specs.Prelude.{Box}
+use Rattle.std.specs.declared.alloc.Global.{Global}
 use Rattle.std.specs.Ordering.{nat_cmp, is_eq}
 use Rattle.std.specs.Cmp.{nat_cmp_is}
 use Rattle.std.specs.declared.cmp.Ordering.TheVariants.{Less, Equal, Greater}
@@ -7,12 +9,9 @@ use Rattle.std.proofs.lemmas.Bool.{cases_eq}
 use Rattle.std.proofs.lemmas.Bool.Decides.{nat_tests}
 use Rattle.std.proofs.lemmas.List.{drop-drop}
 use Rattle.gx_bytes.specs.Fields.{le64, of64, of64-le64}
-use Rattle.gx_log.specs.Broken.{HasCause}
-use Rattle.gx_log.specs.Places.{LayCause, cut}
+use Rattle.gx_log.specs.Places.{cut}
 use Rattle.gx_log.proofs.Cutting.{cut_more}
-use Rattle.gx_log.specs.Records.{Entry, Record, laid, laid_all}
-use Rattle.gx_log.specs.declared.error.LogError.{LogError}
-use Rattle.gx_log.specs.declared.error.LogError.TheVariants.{DiskFault, Broken, Memory}
+use Rattle.gx_log.specs.Records.{Entry, Record, laid, laid_all, page_in}
 
 pub laid_push : (before : Option (List ℕ)) (page : ℕ) (entries : Record) (entry : Entry) → laid before page (entries ++ entry ∷ []) ≡ laid (laid before page entries) page (entry ∷ [])
 laid_push before page [] entry = refl
@@ -22,28 +21,18 @@ pub laid_all_push : (before : Option (List ℕ)) (page : ℕ) (records : List Re
 laid_all_push before page [] entries = refl
 laid_all_push before page (r ∷ records) entries = laid_all_push (laid before page r) page records entries
 
-pub lay_cause : (e : LogError) (before mid now : ℕ) → before ≤ mid → LayCause mid now e → LayCause before now e
-lay_cause DiskFault before mid now le rose = omega (arith, le, rose)
-lay_cause (Broken page expected found) before mid now le none = none
-lay_cause Memory before mid now le free = free
-
-pub lay_has_cause : (e : LogError) (before mid now : ℕ) (tells : Type 0) (log : List ℕ) → before ≤ mid → LayCause mid now e → HasCause before now tells log (Unit {0}) e
-lay_has_cause DiskFault before mid now tells log le rose = omega (arith, le, rose)
-lay_has_cause (Broken page expected found) before mid now tells log le none = absurd none
-lay_has_cause Memory before mid now tells log le free = tt
-
-cases_bool : (b : Bool) → (b ≡ true) ⊎ (b ≡ false)
+pub cases_bool : (b : Bool) → (b ≡ true) ⊎ (b ≡ false)
 cases_bool true = inl refl
 cases_bool false = inr refl
 
-lt_or_gt : (k q : ℕ) → (k ≡ q → ⊥) → (k < q) ⊎ (q < k)
+pub lt_or_gt : (k q : ℕ) → (k ≡ q → ⊥) → (k < q) ⊎ (q < k)
 lt_or_gt k q apart = elim (cases_bool (nat_lt k q)) [
   | inl below ↦ inl (grind (arith, nat_tests, below))
   | inr not_below ↦ inr (grind (arith, nat_tests, not_below, apart))
 ]
 
 -- the order of numbers tells the same as their test
-cmp_same : (k q : ℕ) → is_eq (nat_cmp k q) ≡ (k == q)
+pub cmp_same : (k q : ℕ) → is_eq (nat_cmp k q) ≡ (k == q)
 cmp_same k q = elim (cases_eq k q) [
   | inl same ↦
       let test : (k == q) ≡ true = eq-eqb k q same in
@@ -56,6 +45,10 @@ cmp_same k q = elim (cases_eq k q) [
       ]
 ]
 
+in_chosen : (b : Bool) (there : Box (List ℕ) Global) (before : Option (Box (List ℕ) Global)) → page_in (cond b (Some there) before) ≡ cond b (Some there.value) (page_in before)
+in_chosen true there before = refl
+in_chosen false there before = refl
+
 -- one entry laid over what stood there
 pub lay_one : (before got : Option (List ℕ)) (page number : ℕ) (field bytes there : List ℕ) → field ≡ le64 number → number < 2 ^ 50 → there ≡ bytes
     → got ≡ cond (is_eq (nat_cmp number page)) (Some there) before → got ≡ laid before page ((field, bytes) ∷ [])
@@ -66,6 +59,12 @@ lay_one before got page number field bytes there is small same update =
     ap (λ (n : ℕ). nat_lt n (2 ^ 50) && (n == page)) reads ∙ ap (λ (b : Bool). b && (number == page)) below in
     update ∙ ap (λ (b : Bool). cond b (Some there) before) (cmp_same number page ∙ sym test)
     ∙ ap (λ (l : List ℕ). cond (nat_lt (of64 field) (2 ^ 50) && (of64 field == page)) (Some l) before) same
+
+-- the same of pages in boxes
+pub lay_boxed : (before got : Option (Box (List ℕ) Global)) (page number : ℕ) (field bytes : List ℕ) (there : Box (List ℕ) Global) → field ≡ le64 number → number < 2 ^ 50
+    → there.value ≡ bytes → got ≡ cond (is_eq (nat_cmp number page)) (Some there) before → page_in got ≡ laid (page_in before) page ((field, bytes) ∷ [])
+lay_boxed before got page number field bytes there is small same update =
+    lay_one (page_in before) (page_in got) page number field bytes there.value is small same (ap page_in update ∙ in_chosen (is_eq (nat_cmp number page)) there before)
 
 -- an entry of a page from 2^50 on is passed by
 pub lay_none : (before : Option (List ℕ)) (page number : ℕ) (field bytes : List ℕ) → field ≡ le64 number → number < 2 ^ 64 → 2 ^ 50 ≤ number → before ≡ laid before page ((field, bytes) ∷ [])

@@ -1,7 +1,7 @@
 mod Adding
 pub mod Bodies
 mod Cutting
-mod Finding
-mod Laying
+pub mod Finding
+pub mod Laying
 mod Moves
 mod Stages

@@ -1,5 +1,5 @@
 -- How writes of the log, one behind another, are one write.
-use Rattle.std.proofs.Common.{◌≡◌, ◌⊎◌, inl, inr, ℕ, ◌+◌, ◌<◌, ◌≤◌, List, ◌++◌, length, get_or, take, drop, refl, ◌∙◌, ap, subst, arith}
+use Rattle.std.proofs.Common.{◌≡◌, ◌⊎◌, inl, inr, ℕ, ◌+◌, ◌<◌, ◌≤◌, List, [], ◌++◌, length, get_or, take, drop, refl, sym, ◌∙◌, ap, subst, arith, append_assoc}
 use Rattle.std.proofs.lemmas.List.{same_lists, places}
 use Rattle.gx_words.specs.Causes.{Said}
 use Rattle.gx_words.specs.Image.{Image, Torn, written}
@@ -110,14 +110,20 @@ module _ {D : Type 0} (g : Ghosts D) where
     faults = later;
   }
 
-  -- the numbers of a write, told otherwise
-  pub writes_at : (old new : D) (at place n m : ℕ) → place ≡ at → m ≡ n → Writes g place m old new → Writes g at n old new
-  writes_at old new at place n m is size writes = subst (λ (k : ℕ). Writes g k n old new) is (subst (λ (k : ℕ). Writes g place k old new) size writes)
-
   -- two writes, one behind the other
   pub writes_two : (old mid new : D) (at place m n total : ℕ) → place ≡ at + m → m + n ≡ total → Writes g at m old mid → Writes g place n mid new → Writes g at total old new
   writes_two old mid new at place m n total behind size first second =
       subst (λ (k : ℕ). Writes g at k old new) size (writes_join old mid new at m n first (subst (λ (k : ℕ). Writes g k n mid new) behind second))
+
+  -- no write
+  pub writes_none : (disk : D) (at : ℕ) → Writes g at 0 disk disk
+  writes_none disk at = record {
+    images = λ c left. (c, left, (torn_none at 0 c.log, refl));
+    time = no_call g.moment g.may_have_left_since disk _;
+    torn = λ tells. (torn_none at 0 (g.told disk).log, refl);
+    said = refl;
+    faults = omega arith;
+  }
 
 -- and what is read then
 pub done_two : (log mid new a b bytes : List ℕ) (at place : ℕ) → at ≤ length log → mid ≡ written log at a → new ≡ written mid place b → place ≡ at + length a
@@ -125,6 +131,15 @@ pub done_two : (log mid new a b bytes : List ℕ) (at place : ℕ) → at ≤ le
 done_two log mid new a b bytes at place le first second behind is =
     second ∙ ap (λ (l : List ℕ). written l place b) first ∙ ap (λ (k : ℕ). written (written log at a) k b) behind ∙ written_join log a b at le
     ∙ ap (λ (l : List ℕ). written log at l) is
+
+pub written_none : (log : List ℕ) (at : ℕ) → at ≤ length log → written log at [] ≡ log
+written_none log at le = same_lists _ _ (grind (arith, places)) (λ k d h. grind (arith, places))
+
+-- bytes of which a front was written, and more behind them
+pub poured_more : (front more left part entry all : List ℕ) → part ≡ more ++ left → front ++ part ≡ all → front ++ more ++ (left ++ entry) ≡ all ++ entry
+poured_more front more left part entry all split is =
+    append_assoc front more (left ++ entry) ∙ ap (λ (l : List ℕ). front ++ l) (sym (append_assoc more left entry) ∙ ap (λ (l : List ℕ). l ++ entry) (sym split))
+    ∙ sym (append_assoc front part entry) ∙ ap (λ (l : List ℕ). l ++ entry) is
 
 pub length_written : (log a mid : List ℕ) (at : ℕ) → mid ≡ written log at a → at + length a ≤ length mid
 length_written log a mid at is = let size : length mid ≡ length (written log at a) = ap length is in grind (arith, places, size)

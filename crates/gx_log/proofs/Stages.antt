@@ -117,6 +117,3 @@ torn_first (entries ∷ records) log c stands some torn =
           inl (record { gate = stands.gate; rest = stands.rest; bytes = all ∙ stands.bytes; shut = stands.shut; sound = stands.sound })
       | inr shut ↦ inr (record { gate = get_or c 0 0; rest = drop 1 c; bytes = same; shut = shut; sound = tt })
     ]
-
-pub closed_first : (log c : List ℕ) → c ≡ written log 0 (0 ∷ []) → Stands [] c
-closed_first log c is = record { gate = 0; rest = drop 1 log; bytes = is; shut = omega arith; sound = tt }

@@ -1,6 +1,6 @@
 -- What the calls of a log leave of a disk.
-use Rattle.std.specs.Prelude.{◌≡◌, ◌⊎◌, ℕ, ◌≤◌, ◌↔◌, List, length, Option}
-use Rattle.gx_words.specs.Image.{Image}
+use Rattle.std.specs.Prelude.{◌≡◌, ◌⊎◌, ℕ, ◌+◌, ◌≤◌, ◌↔◌, List, ◌++◌, length, Option}
+use Rattle.gx_words.specs.Image.{Image, written}
 use Rattle.gx_words.specs.Moments.{Through}
 use Rattle.gx_disk.specs.Areas.{TornIn, Settled}
 use Rattle.gx_disk.specs.declared.area.Area.TheVariants.{Log}
@@ -30,6 +30,14 @@ pub record Writes {D : Type 0} (g : Ghosts D) (at n : ℕ) (old new : D) : Type 
   pub torn : g.tells → TornIn Log at n (g.told old) (g.told new)
   pub said : g.said new ≡ g.said old
   pub faults : g.faults old ≤ g.faults new
+
+-- Of bytes that weren't written yet a front was written at this place, and the others are left; the log goes on there.
+pub record Poured {D : Type 0} (g : Ghosts D) (place later : ℕ) (before after : List ℕ) (old new : D) : Type 0 where
+  pub front : List ℕ
+  pub split : before ≡ front ++ after
+  pub goes_on : later ≡ place + length front
+  pub writes : Writes g place (length front) old new
+  pub told : g.tells → place ≤ length (g.told old).log → (g.told new).log ≡ written (g.told old).log place front
 
 -- The log as read is these records, which end at the front, and behind them a gate that isn't open; and all of it is
 -- on the disk.

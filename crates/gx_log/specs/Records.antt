@@ -3,7 +3,8 @@
 -- At a place of the log stands a gate, which is one byte. Behind an open gate, which is 1, stands the body of a record:
 -- the number of its entries in eight bytes, and for each entry the number of a page in eight bytes and the page's
 -- 8,192 bytes. Behind a body stands the next gate. A record counts where its gate and all gates before it are open.
-use Rattle.std.specs.Prelude.{◌≡◌, ◌≢◌, ◌==◌, ◌&&◌, ℕ, ◌+◌, ◌*◌, ◌<◌, ◌^◌, nat_lt, nat_le, if◌then◌else◌, List, [], ◌∷◌, ◌++◌, length, take, drop, map, Option, Some, None}
+use Rattle.std.specs.Prelude.{◌≡◌, ◌≢◌, ◌==◌, ◌&&◌, ℕ, ◌+◌, ◌*◌, ◌<◌, ◌^◌, nat_lt, nat_le, if◌then◌else◌, List, [], ◌∷◌, ◌++◌, length, take, drop, map, Option, Some, None, Box}
+use Rattle.std.specs.declared.alloc.Global.{Global}
 use Rattle.std.specs.List.{flat_map, AllByRecursion}
 use Rattle.gx_words.specs.Image.{Image}
 use Rattle.gx_words.specs.PageMap.{PageMap}
@@ -64,6 +65,31 @@ pub record HasPages (image : Image) (pages : PageMap) : Type 0 where
   pub counted : Stands records image.log
   pub are : (page : ℕ) → pages page ≡ laid_all (piece image.pages page) page records
 
+-- How many pages page 0 names, at its byte 8; none where there is no page 0.
+abbrev pub count_in : Option (List ℕ) → ℕ
+count_in None = 0
+count_in (Some header) = of64 (take 8 (drop 8 header))
+
+-- the pages below the count that page 0 names
+abbrev pub counted_pages : PageMap → PageMap
+counted_pages all = λ n. if nat_lt n (count_in (all 0)) then all n else None
+
+-- The map that an image stands for: its pages below the count on its page 0.
+pub record HasMap (image : Image) (map : PageMap) : Type 0 where
+  pub all : PageMap
+  pub pages : HasPages image all
+  pub are : (page : ℕ) → map page ≡ counted_pages all page
+
+-- how many entries these records have
+abbrev pub entries_in : List Record → ℕ
+entries_in [] = 0
+entries_in (entries ∷ records) = length entries + entries_in records
+
+-- the bytes of a page in a box
+abbrev pub page_in : Option (Box (List ℕ) Global) → Option (List ℕ)
+page_in None = None
+page_in (Some page) = Some page.value
+
 -- the record of these pages, by their numbers
-abbrev pub record_of : List (ℕ × List ℕ) → Record
-record_of images = map (λ image. (le64 image.0, image.1)) images
+abbrev pub record_of : List (ℕ × Box (List ℕ) Global) → Record
+record_of images = map (λ image. (le64 image.0, image.1.value)) images

@@ -3,6 +3,7 @@
 ghost use Rattle.std.specs.Prelude.{◌≡◌, ◌+◌, ◌-◌, ◌^◌, ◌<◌, ◌≤◌, [], ◌∷◌, OnOk, IsErr};
 ghost use Rattle.gx_words.specs.Causes.{Rose};
 ghost use Rattle.gx_words.specs.Image.{written};
+ghost use Rattle.gx_words.specs.Moments.{Goes};
 ghost use Rattle.gx_disk.specs.Areas.{Settled};
 ghost use Rattle.gx_disk.specs.declared.area.Area.TheVariants.{Log};
 ghost use Rattle.gx_log.specs.Disks.{Writes};
@@ -21,6 +22,7 @@ pub fn set_gate<D: Disk>(disk: &mut D, place: u64, gate: u8) -> Result<(), Faile
     ensures said { D.said disk.new ≡ D.said disk.old }
     ensures faults { D.faults disk.old ≤ D.faults disk.new }
     ensures failed { IsErr result → Rose (D.faults disk.old) (D.faults disk.new) }
+    ensures goes { Goes D.moment D.may_have_left_since disk.old disk.new }
 {
     write_part(disk, place, &[gate])?;
     disk.sync(Area::Log)?;

@@ -4,12 +4,10 @@
 mod error;
 mod gate;
 mod log;
+mod part;
 mod replay;
 mod scan;
 mod write;
 
 pub use error::LogError;
 pub use log::{Images, Log, one_meaning};
-
-#[cfg(test)]
-mod tests;

@@ -1,13 +1,14 @@
 //! The log.
 
-ghost use Rattle.std.specs.Prelude.{◌≡◌, ℕ, ◌+◌, ◌-◌, ◌*◌, ◌^◌, ◌<◌, ◌≤◌, [], ◌∷◌, ◌++◌, List, IfOk, IfErr, OnOk, IsErr};
+ghost use Rattle.std.specs.Prelude.{◌≡◌, ℕ, ◌+◌, ◌-◌, ◌*◌, ◌^◌, ◌<◌, ◌≤◌, [], ◌∷◌, ◌++◌, List, IfOk, IfErr, OnOk, OnErr, IsErr};
 ghost use Rattle.std.specs.BTreeMap.{btree_map_len, get};
 ghost use Rattle.std.specs.Ordering.{nat_cmp};
 ghost use Rattle.gx_words.specs.Causes.{Rose};
+ghost use Rattle.gx_words.specs.Moments.{Goes};
 ghost use Rattle.gx_disk.specs.Areas.{Settled};
 ghost use Rattle.gx_log.specs.Broken.{HasCause};
 ghost use Rattle.gx_log.specs.Disks.{Leaves, Reads, IsAtRest, BeforeOrAfter, InPlace, SamePages, Synced};
-ghost use Rattle.gx_log.specs.Records.{Record, Stands, laid_all, record_of};
+ghost use Rattle.gx_log.specs.Records.{Record, Stands, entries_in, laid_all, page_in, record_of};
 
 use crate::error::LogError;
 use crate::gate::set_gate;
@@ -21,12 +22,13 @@ use std::alloc::Global;
 use std::collections::BTreeMap;
 use std::marker::Model;
 
-/// Pages by their numbers, in order.
-pub type Images = BTreeMap<u64, Page>;
+/// Pages by their numbers, in order. Each is in a box, so that the map moves none.
+pub type Images = BTreeMap<u64, Box<Page>>;
 
 /// A log that was opened. It is seen as its front: the first place whose gate isn't open.
 #[derive(Debug, Drop)]
 pub struct Log {
+    alloc: Global,
     front: u64,
 }
 
@@ -39,9 +41,8 @@ impl Model for Log {
 }
 
 impl Log {
-    /// Syncs both areas, and finds the front. It writes nothing. (It takes an allocator since its error can tell of
-    /// want of memory; it needs none.)
-    pub fn open<D: Disk>(_alloc: Global, disk: &mut D) -> Result<Log, LogError>
+    /// Syncs both areas, and finds the front. It writes nothing. The allocator serves `replay`.
+    pub fn open<D: Disk>(alloc: Global, disk: &mut D) -> Result<Log, LogError>
         ensures at_rest { IfOk result (λ front. D.tells → (records : List Record) × IsAtRest D.Disk front disk.new records) }
         ensures counted { IfOk result (λ front. D.tells → (records : List Record) → Stands records (D.told disk.old).log → IsAtRest D.Disk front disk.new records) }
         ensures settled { OnOk result (D.tells → (area : _) → Settled area (D.told disk.new) (D.now_may_leave disk.new)) }
@@ -49,17 +50,21 @@ impl Log {
 
         // At each moment a crash leaves an image of before, in which the log, or both areas, may be what was read.
         ensures any_moment { D.tells → Leaves D.Disk (Synced D.Disk disk.old) disk.old disk.new }
+
+        // Each of them could be left before.
+        ensures before { D.tells → Leaves D.Disk (D.now_may_leave disk.old) disk.old disk.new }
         ensures told { D.told disk.new ≡ D.told disk.old }
         ensures said { D.said disk.new ≡ D.said disk.old }
         ensures faults { D.faults disk.old ≤ D.faults disk.new }
         ensures cause { IfErr result (HasCause (D.faults disk.old) (D.faults disk.new) D.tells (D.told disk.old).log ⊥) }
+        ensures goes { Goes D.moment D.may_have_left_since disk.old disk.new }
     {
         match sync_both(disk) {
             Ok(()) => (),
             Err(fault) => return Err(fault),
         }
         match find_front(disk) {
-            Ok(front) => Ok(Log { front }),
+            Ok(front) => Ok(Log { alloc, front }),
             Err(fault) => Err(fault),
         }
     }
@@ -72,14 +77,16 @@ impl Log {
     }
 
     /// Lays the images of the open records over `into`, in their order. Those of pages from 2^50 on are passed by.
-    pub fn replay<D: Disk>(&self, disk: &mut D, into: &mut Images) -> Result<(), LogError>
+    /// Answers how many entries the records have.
+    pub fn replay<D: Disk>(&self, disk: &mut D, into: &mut Images) -> Result<u64, LogError>
         ensures laid { OnOk result (D.tells → (records : List Record) → Stands records (D.told disk.old).log
-            → (page : ℕ) → page < 2 ^ 64 → get nat_cmp into.new page ≡ laid_all (get nat_cmp into.old page) page records) }
+            → (page : ℕ) → page_in (get nat_cmp into.new page) ≡ laid_all (page_in (get nat_cmp into.old page)) page records) }
+        ensures entries { IfOk result (λ n. D.tells → (records : List Record) → Stands records (D.told disk.old).log → n ≡ entries_in records) }
         ensures counted { OnOk result (D.tells → (records : List Record) × Stands records (D.told disk.old).log) }
         ensures reads { Reads D.Disk disk.old disk.new }
         ensures cause { IfErr result (HasCause (D.faults disk.old) (D.faults disk.new) D.tells (D.told disk.old).log (Unit {0})) }
     {
-        lay_records(disk, into)
+        lay_records(self.alloc, disk, into)
     }
 
     /// Adds a record of these images: its body behind the front's gate, a sync, the gate, a sync.
@@ -88,6 +95,7 @@ impl Log {
         ensures added { OnOk result (D.tells → (records : List Record) → IsAtRest D.Disk self.old disk.old records
             → IsAtRest D.Disk self.new disk.new (records ++ record_of images.now.entries ∷ [])) }
         ensures end { OnOk result (self.new ≡ self.old + (9 + 8200 * btree_map_len images.now)) }
+        ensures same { OnErr result (self.new ≡ self.old) }
 
         // At each moment a crash leaves the pages of before, or those of after.
         ensures any_moment { D.tells → (records : List Record) → IsAtRest D.Disk self.old disk.old records
@@ -96,6 +104,7 @@ impl Log {
         ensures said { D.said disk.new ≡ D.said disk.old }
         ensures faults { D.faults disk.old ≤ D.faults disk.new }
         ensures failed { IsErr result → Rose (D.faults disk.old) (D.faults disk.new) }
+        ensures goes { Goes D.moment D.may_have_left_since disk.old disk.new }
     {
         let end = write_record(disk, self.front + 1, images)?;
         set_gate(disk, self.front, 1)?;
@@ -108,6 +117,7 @@ impl Log {
     pub fn reset<D: Disk>(&mut self, disk: &mut D) -> Result<(), Failed>
         ensures none { OnOk result (D.tells → (records : List Record) → IsAtRest D.Disk self.old disk.old records → IsAtRest D.Disk self.new disk.new []) }
         ensures front { OnOk result (self.new ≡ 0) }
+        ensures same { OnErr result (self.new ≡ self.old) }
 
         // At each moment a crash leaves all records, or none.
         ensures any_moment { D.tells → (records : List Record) → IsAtRest D.Disk self.old disk.old records
@@ -120,6 +130,7 @@ impl Log {
         ensures said { D.said disk.new ≡ D.said disk.old }
         ensures faults { D.faults disk.old ≤ D.faults disk.new }
         ensures failed { IsErr result → Rose (D.faults disk.old) (D.faults disk.new) }
+        ensures goes { Goes D.moment D.may_have_left_since disk.old disk.new }
     {
         if self.front == 0 {
             return Ok(());

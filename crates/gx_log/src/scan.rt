@@ -3,6 +3,7 @@
 ghost use Rattle.std.specs.Prelude.{◌≡◌, ◌≢◌, ℕ, ◌+◌, ◌-◌, ◌*◌, ◌^◌, ◌<◌, ◌≤◌, [], length, take, drop, replicate, slice_index, List, IfOk, IfErr, IfSome, IfNone, OnOk, get_or, IsErr};
 ghost use Rattle.gx_words.specs.Causes.{Rose};
 ghost use Rattle.gx_words.specs.Image.{Image};
+ghost use Rattle.gx_words.specs.Moments.{Goes};
 ghost use Rattle.gx_bytes.specs.Fields.{le64};
 ghost use Rattle.gx_log.specs.Broken.{HasCause};
 ghost use Rattle.gx_log.specs.Disks.{Reads, Leaves, Synced};
@@ -106,10 +107,13 @@ pub fn sync_both<D: Disk>(disk: &mut D) -> Result<(), LogError>
     ensures images { D.tells → (c : Image) → D.now_may_leave disk.new c → Synced D.Disk disk.old c }
     ensures settled { OnOk result (D.tells → (c : Image) → D.now_may_leave disk.new c → c ≡ D.told disk.old) }
     ensures any_moment { D.tells → Leaves D.Disk (Synced D.Disk disk.old) disk.old disk.new }
+    ensures before { D.tells → Leaves D.Disk (D.now_may_leave disk.old) disk.old disk.new }
+    ensures fewer { D.tells → (c : Image) → D.now_may_leave disk.new c → D.now_may_leave disk.old c }
     ensures told { D.told disk.new ≡ D.told disk.old }
     ensures said { D.said disk.new ≡ D.said disk.old }
     ensures faults { D.faults disk.old ≤ D.faults disk.new }
     ensures cause { IfErr result (λ e. (e ≡ LogError.DiskFault) × Rose (D.faults disk.old) (D.faults disk.new)) }
+    ensures goes { Goes D.moment D.may_have_left_since disk.old disk.new }
 {
     match disk.sync(Area::Log) {
         Ok(()) => (),

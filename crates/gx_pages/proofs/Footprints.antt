@@ -1,14 +1,14 @@
 -- Pages that lie apart, what a change of other pages leaves, and the causes of a call that hands an error on.
-use Rattle.std.proofs.Common.{◌≡◌, ◌≢◌, ◌⊎◌, inl, inr, ⊎_elim, ℕ, ◌+◌, ◌-◌, ◌^◌, ◌<◌, ◌≤◌, ◌==◌, if◌then◌else◌, zero, suc, true, false, cond, eqb, List, [], ◌∷◌, ◌++◌, length, take, drop, Some, refl, sym, ◌∙◌, ap, subst, append_assoc, append-nil, arith}
+use Rattle.std.proofs.Common.{◌≡◌, ◌≢◌, inl, inr, ⊎_elim, ℕ, ◌+◌, ◌-◌, ◌^◌, ◌<◌, ◌≤◌, zero, suc, true, false, cond, eqb, List, [], ◌∷◌, ◌++◌, length, Some, refl, sym, ◌∙◌, ap, subst, append_assoc, append-nil, arith}
 use Rattle.std.specs.List.{AllByRecursion, range_with_len, sum_by}
 use Rattle.std.specs.List.Sorted.{IsPermutation}
 use Rattle.std.proofs.lemmas.Bool.{cases_lt}
 use Rattle.std.proofs.lemmas.Bool.Decides.{eqb_tells}
 use Rattle.std.proofs.lemmas.List.Sums.{sum_by-append}
-use Rattle.std.proofs.lemmas.List.Sorted.{IsPermutation-refl, sum_by-IsPermutation}
-use Rattle.gx_bytes.specs.Fields.{le64, le64-same}
+use Rattle.std.proofs.lemmas.List.Sorted.{IsPermutation-refl, IsPermutation-trans, IsPermutation-append_left, sum_by-IsPermutation}
+use Rattle.gx_bytes.specs.Fields.{le64-same}
 use Rattle.gx_words.specs.PageMap.{PageMap, with_page}
-use Rattle.gx_words.specs.Causes.{Rose, Said}
+use Rattle.gx_words.specs.Causes.{Said}
 use Rattle.gx_pages.specs.declared.error.PageError.{PageError}
 use Rattle.gx_pages.specs.declared.error.PageError.TheVariants.{DiskFault, Broken, PageSpace, Memory}
 use Rattle.gx_pages.specs.declared.store.Pages.{Ghosts}
@@ -56,7 +56,7 @@ times_sum n (x ∷ xs) =
     let cut : sum_by (hit n) (x ∷ xs) ≡ sum_by (hit n) (x ∷ []) + sum_by (hit n) xs = sum_by-append (hit n) (x ∷ []) xs in
     omega (arith, cut, rest)
 
-hit_none : (n x : ℕ) → n ≢ x → hit n x ≡ 0
+pub hit_none : (n x : ℕ) → n ≢ x → hit n x ≡ 0
 hit_none n x differ = ⊎_elim (λ same. absurd (differ same.1)) (λ other. rw (other.0) refl) (eqb_tells n x)
 
 hit_one : (n : ℕ) → hit n n ≡ 1
@@ -316,39 +316,126 @@ gives_at a b new m n page map count gives =
 pub same_pages : (xs ys : List ℕ) → xs ≡ ys → IsPermutation xs ys
 same_pages xs ys same = subst (λ (l : List ℕ). IsPermutation xs l) same (IsPermutation-refl xs)
 
+-- the pages that a count grew by, in two steps
+range_split : (a m n k b : ℕ) → k ≡ m + n → b ≡ a + m → range_with_len a k ≡ range_with_len a m ++ range_with_len b n
+range_split a zero n k b size at = let ke : k ≡ n = omega (arith, size) in let be : b ≡ a = omega (arith, at) in rw (ke, be) refl
+range_split a (suc m) n zero b size at = absurd (omega (arith, size))
+range_split a (suc m) n (suc k) b size at = ap (λ (l : List ℕ). a ∷ l) (range_split (a + 1) m n k b (omega (arith, size)) (omega (arith, at)))
+
+grown_split : (a b c : ℕ) → a ≤ b → b ≤ c → grown a c ≡ grown a b ++ grown b c
+grown_split a b c first second = range_split a (b - a) (c - b) (c - a) b (omega (arith, first, second)) (omega (arith, first, second))
+
+-- a page that isn't new and stands nowhere before stands nowhere afterwards
+outside_later : (page count later : ℕ) (pages moved : List ℕ) → page < count → IsPermutation (pages ++ grown count later) moved → IsOutside page pages → IsOutside page moved
+outside_later page count later pages moved below perm out =
+    none_outside page moved (omega (
+      arith,
+      times-permutation page (pages ++ grown count later) moved perm,
+      times-append page pages (grown count later),
+      outside_none page pages out,
+      above_all count (later - count) page below,
+    ))
+
+at_most_on : (a b c : ℕ) → a ≤ b → b ≤ c → a ≤ c
+at_most_on a b c x y = omega (arith, x, y)
+
 module _ {P : Type 0} (g : Ghosts P) where
   -- before the first call, and one call behind another
-  pub quiet_none : (pages : P) → StaysQuiet g pages pages
-  quiet_none pages = record {
+  pub quiet_none : ((s : P) → g.follows s s) → (pages : P) → StaysQuiet g pages pages
+  quiet_none itself pages = record {
     said = refl;
     committed = refl;
+    committed_count = refl;
     spoiled = refl;
     begun = refl;
-    holds = refl;
+    follows = itself pages;
     faults = omega arith;
     images = λ map may. may;
     time = record { later = omega arith; nothing_else = λ t m le since. inl since; keeps = λ t m le past. past };
   }
 
-  pub quiet_join : (old mid new : P) → StaysQuiet g old mid → StaysQuiet g mid new → StaysQuiet g old new
-  quiet_join old mid new first second = record {
+  pub quiet_join : ((a b c : P) → g.follows a b → g.follows b c → g.follows a c) → (old mid new : P) → StaysQuiet g old mid → StaysQuiet g mid new → StaysQuiet g old new
+  quiet_join on_and_on old mid new first second = record {
     said = second.said ∙ first.said;
     committed = second.committed ∙ first.committed;
+    committed_count = second.committed_count ∙ first.committed_count;
     spoiled = second.spoiled ∙ first.spoiled;
     begun = second.begun ∙ first.begun;
-    holds = second.holds ∙ first.holds;
+    follows = on_and_on old mid new first.follows second.follows;
     faults = omega (arith, first.faults, second.faults);
     images = λ map may. first.images map (second.images map may);
     time = record {
       later = omega (arith, first.time.later, second.time.later);
       nothing_else = λ t m le since.
+          let on = λ (u : ℕ) (l : u ≤ g.moment old). at_most_on u (g.moment old) (g.moment mid) l first.time.later in
           ⊎_elim
-          (λ past. first.time.nothing_else t m le past)
-          (λ now. inr (first.images m.image now.0, now.1 ∙ ap (λ (said : Said). said.bytes) first.said))
-          (second.time.nothing_else t m (omega (arith, le, first.time.later)) since);
+          (λ past. ⊎_elim (λ before. inl before) (λ new. inr (new.0, λ u l. second.time.keeps u m (on u l) (new.1 u l))) (first.time.nothing_else t m le past))
+          (λ now. inr ((first.images m.image now.0.0, now.0.1 ∙ ap (λ (said : Said). said.bytes) first.said), λ u l. now.1 u (on u l)))
+          (second.time.nothing_else t m (on t le) since);
       keeps = λ t m le past. second.time.keeps t m (omega (arith, le, first.time.later)) (first.time.keeps t m le past);
     };
   }
+
+  -- Pages are kept where only those of the structure changed, the ones of before and the ones of now.
+  pub keeps_of : (old new : P) (before free after rest : List ℕ) → g.count old ≤ g.count new → ChangesOnly (g.map old) (g.map new) (before ++ after) → KeepsHeader (g.map old) (g.map new)
+      → IsFreeList (g.map new) (g.count new) rest → IsPermutation (before ++ free ++ grown (g.count old) (g.count new)) (after ++ rest) → KeepsPages g old new before free after rest
+  keeps_of old new before free after rest grows only header frees kept = record {
+    grows = grows;
+    others = λ page some below out.
+        let later = outside_later page (g.count old) (g.count new) (before ++ free) (after ++ rest) below kept out in
+        only page some (none_outside page (before ++ after) (omega (
+          arith,
+          times-append page before after,
+          times-append page after rest,
+          times-append page before free,
+          outside_none page (after ++ rest) later,
+          outside_none page (before ++ free) out,
+        )));
+    header = header;
+    frees = frees;
+    kept = kept;
+  }
+
+  -- nothing is changed yet
+  pub keeps_none : (pages : P) (before free : List ℕ) → IsFreeList (g.map pages) (g.count pages) free → KeepsPages g pages pages before free before free
+  keeps_none pages before free frees = record {
+    grows = omega arith;
+    others = λ page some below out. refl;
+    header = header_none (g.map pages);
+    frees = frees;
+    kept = same_pages (before ++ free ++ grown (g.count pages) (g.count pages)) (before ++ free)
+        (ap (λ (l : List ℕ). before ++ free ++ l) (same_count (g.count pages) (g.count pages) refl) ∙ append-nil (before ++ free));
+  }
+
+  -- nothing was changed before
+  pub keeps_from : (old mid new : P) (before free after rest : List ℕ) → g.map mid ≡ g.map old → g.count mid ≡ g.count old → KeepsPages g mid new before free after rest → KeepsPages g old new before free after rest
+  keeps_from old mid new before free after rest map count keeps = record {
+    grows = let grows = keeps.grows in omega (arith, grows, count);
+    others = λ page some below out. keeps.others page some (omega (arith, below, count)) out ∙ ap (λ (m : PageMap). m page) map;
+    header = subst (λ (m : PageMap). KeepsHeader m (g.map new)) map keeps.header;
+    frees = keeps.frees;
+    kept = subst (λ (n : ℕ). IsPermutation (before ++ free ++ grown n (g.count new)) (after ++ rest)) count keeps.kept;
+  }
+
+  -- one change behind another
+  pub keeps_join : (old mid new : P) (before free middle left after rest : List ℕ) → KeepsPages g old mid before free middle left → KeepsPages g mid new middle left after rest
+      → KeepsPages g old new before free after rest
+  keeps_join old mid new before free middle left after rest first second =
+      let a = grown (g.count old) (g.count mid) in
+      let b = grown (g.count mid) (g.count new) in
+      let regroup : before ++ free ++ grown (g.count old) (g.count new) ≡ (before ++ free ++ a) ++ b =
+      ap (λ (l : List ℕ). before ++ free ++ l) (grown_split (g.count old) (g.count mid) (g.count new) first.grows second.grows) ∙ sym (append_assoc (before ++ free) a b) in
+      let step = first.grows in
+      record {
+        grows = omega (arith, first.grows, second.grows);
+        others = λ page some below out.
+            second.others page some (omega (arith, below, step)) (outside_later page (g.count old) (g.count mid) (before ++ free) (middle ++ left) below first.kept out)
+            ∙ first.others page some below out;
+        header = header_join (g.map old) (g.map mid) (g.map new) first.header second.header;
+        frees = second.frees;
+        kept = subst (λ (l : List ℕ). IsPermutation l (after ++ rest)) (sym regroup)
+            (IsPermutation-trans ((before ++ free ++ a) ++ b) ((middle ++ left) ++ b) (after ++ rest) (IsPermutation-append_left b (before ++ free ++ a) (middle ++ left) first.kept) second.kept);
+      }
 
   -- What lay apart from a structure and its free pages, below the count, lies apart from them when pages were kept.
   pub kept_apart : (old new : P) (before free after rest : List ℕ) → KeepsPages g old new before free after rest → IsApart (before ++ free)

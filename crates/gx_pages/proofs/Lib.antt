@@ -1,11 +1,11 @@
 mod Causes
 mod FreePages
 mod Giving
-mod Headers
+pub mod Headers
 mod Maps
 mod Parts
 mod Restoring
-mod Rising
+pub mod Rising
 pub mod Footprints
 mod Spelling
-mod Taking
+pub mod Taking

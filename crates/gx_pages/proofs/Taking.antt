@@ -5,7 +5,7 @@ use Rattle.std.proofs.lemmas.Grind.{common_steps}
 use Rattle.gx_bytes.specs.Fields.{le64, paste, le64-same}
 use Rattle.gx_words.specs.PageMap.{PageMap, with_page}
 use Rattle.gx_pages.specs.Databases.{grown, unchained, chained}
-use Rattle.gx_pages.specs.Frees.{HasFirst, IsFreeChain, IsFreeList, StartsBroken, KeepsHeader, Taken, Given, free_page_of}
+use Rattle.gx_pages.specs.Frees.{HasFirst, IsFreeChain, IsFreeList, IsFull, StartsBroken, KeepsHeader, Taken, Given, free_page_of}
 use Rattle.gx_pages.specs.Contents.{Contents, below}
 use Rattle.gx_pages.proofs.FreePages.{next_same, next_field}
 use Rattle.gx_pages.proofs.Maps as maps
@@ -32,6 +32,17 @@ keeps_header map page h k b there other stays before is =
 pub keeps_same : (map new : PageMap) → new ≡ map → KeepsHeader map new
 keeps_same map new same before is = (before, (λ i. same i 0) ∙ is, refl, refl, refl)
 
+-- no page is left, and nothing changed
+pub full_after : (old new : PageMap) (before after pages : ℕ) → (new ≡ old) × (after ≡ before) → pages ≡ 2 ^ 50 → before ≡ 2 ^ 50
+    → ((page : ℕ) (free : List ℕ) → IsFreeList old before (page ∷ free) → ⊥) → IsFull (Unit {0}) new after pages
+full_after old new before after pages same greatest counted none = record {
+  greatest = greatest;
+  counted = same.1 ∙ counted;
+  none_free = λ told page free list.
+      none page free
+      (subst (λ (n : ℕ). IsFreeList old n (page ∷ free)) same.1 (subst (λ (m : PageMap). IsFreeList m after (page ∷ free)) same.0 list));
+}
+
 -- a chain of which no page changed
 chain_same : (old new : PageMap) (page first : ℕ) (pages : List ℕ) → ((n : ℕ) → n ≢ 0 → n ≢ page → new n ≡ old n) → AllByRecursion (λ other. page ≢ other) pages
     → IsFreeChain old first pages → IsFreeChain new first pages
@@ -50,8 +61,8 @@ module _ (map : PageMap) (count : ℕ) (h : List ℕ) (first : ℕ) (there : map
   none_free none [] f = refl
   none_free none (page ∷ free) f = absurd (f.chain.1 (sym f.chain.0 ∙ first_is (page ∷ free) f ∙ none))
 
-  pub one_free : first ≡ 0 → (free : List ℕ) (page : ℕ) → IsFreeList map count (page ∷ free) → ⊥
-  one_free none free page f = f.chain.1 (sym f.chain.0 ∙ first_is (page ∷ free) f ∙ none)
+  pub one_free : first ≡ 0 → (page : ℕ) (free : List ℕ) → IsFreeList map count (page ∷ free) → ⊥
+  one_free none page free f = f.chain.1 (sym f.chain.0 ∙ first_is (page ∷ free) f ∙ none)
 
   pub some_free : first ≢ 0 → IsFreeList map count [] → ⊥
   some_free some f = some (sym (first_is [] f) ∙ f.chain)

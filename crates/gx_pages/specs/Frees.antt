@@ -48,6 +48,12 @@ pub record StartsBroken (map : PageMap) (count : ℕ) : Type 0 where
   pub some : first ≢ 0
   pub no_page : first < count → (next : ℕ) → next < 2 ^ 64 → map first ≢ Some (free_page_of next)
 
+-- No page is left: the count is the greatest, and none is free.
+pub record IsFull (tells : Type 0) (map : PageMap) (count pages : ℕ) : Type 0 where
+  pub greatest : pages ≡ 2 ^ 50
+  pub counted : count ≡ 2 ^ 50
+  pub none_free : tells → (page : ℕ) (free : List ℕ) → IsFreeList map count (page ∷ free) → ⊥
+
 -- Page 0 keeps all but the count and the first free page.
 abbrev pub KeepsHeader : PageMap → PageMap → Type 0
 KeepsHeader old new = (before : List ℕ) → old 0 ≡ Some before

@@ -5,7 +5,7 @@ use Rattle.gx_words.specs.Causes.{Said}
 use Rattle.gx_words.specs.Moments.{Moment, Now}
 use Rattle.gx_words.specs.PageMap.{PageMap}
 use Rattle.gx_pages.specs.Frees.{HasCount}
-use Rattle.gx_pages.specs.Tables.{now_at, map_of, committed_of}
+use Rattle.gx_pages.specs.Tables.{now_at, was_at, map_of, committed_of}
 use Rattle.gx_pages.specs.declared.table.PageTable.{PageTable}
 use Rattle.gx_pages.specs.declared.memory.MemoryPages.{MemoryPages}
 
@@ -33,10 +33,12 @@ memory_leaves s map = map ≡ committed_of s.table
 abbrev pub memory_since : MemoryPages → ℕ → Moment PageMap → Type 0
 memory_since s = Since (s.table ∷ s.history.tables)
 
--- A store with these pages, all committed: no unit is begun, nothing was fetched, and this is its first moment.
-pub record IsFresh (map : PageMap) (s : MemoryPages) : Type 0 where
+-- A store with these pages, so many, all committed: no unit is begun, nothing was fetched, and this is its first moment.
+pub record IsFresh (map : PageMap) (count : ℕ) (s : MemoryPages) : Type 0 where
   pub now : memory_map s ≡ map
   pub committed : memory_committed s ≡ map
+  pub counted : s.table.count ≡ count
+  pub committed_counted : s.table.committed_count ≡ count
   pub begun : s.begun ≡ false
   pub fetches : s.fetches ≡ 0
   pub heap_fetches : s.heap_fetches ≡ 0
@@ -48,6 +50,10 @@ if_below false bytes P has = tt
 
 pub memory_counted : (s : MemoryPages) → IfSome (memory_map s 0) (λ header. HasCount header s.table.count)
 memory_counted s = if_below (nat_lt 0 s.table.count) (now_at s.table 0) (λ header. HasCount header s.table.count) s.counted.header
+
+pub memory_committed_counted : (s : MemoryPages) → IfSome (memory_committed s 0) (λ header. HasCount header s.table.committed_count)
+memory_committed_counted s =
+    if_below (nat_lt 0 s.table.committed_count) (was_at s.table 0) (λ header. HasCount header s.table.committed_count) s.committed_counted.header
 
 none_later : (past : List PageTable) (t : ℕ) (m : Moment PageMap) → length past ≤ t → Since past t m → ⊥
 none_later [] t m later since = since

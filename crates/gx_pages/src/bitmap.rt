@@ -1,6 +1,6 @@
 //! A list of rows by rising numbers.
 
-ghost use Rattle.std.specs.Prelude.{◌≡◌, [], ◌∷◌, ◌++◌, List, length, take, OnOk, OnErr};
+ghost use Rattle.std.specs.Prelude.{◌≡◌, [], ◌∷◌, ◌++◌, List, length, take, ◌↔◌, IsTrue, OnOk, OnErr};
 ghost use Rattle.gx_pages.specs.declared.row.RowRef.{RowRef};
 ghost use Rattle.gx_pages.specs.Rows.{AreBelow, IsRising};
 
@@ -52,5 +52,30 @@ impl Bitmap {
     {
         self.rows.push(row)?;
         Ok(())
+    }
+
+    /// How many rows there are.
+    pub fn len(&self) -> usize
+        ensures value { result ≡ length self.now }
+        ensures rising { IsRising self.now }
+    {
+        self.rows.len()
+    }
+
+    /// Keeps the first rows, so many of them.
+    pub fn truncate(&mut self, len: usize)
+        ensures { self.new ≡ take len self.old }
+    {
+        self.rows.truncate(len);
+    }
+
+    /// Tells whether all rows have numbers below this one.
+    pub fn is_below(&self, number: u64) -> bool
+        ensures { IsTrue result ↔ AreBelow self.now number }
+    {
+        match self.rows.as_slice() {
+            [_front @ .., last] => last.number < number,
+            [] => true,
+        }
     }
 }

@@ -4,7 +4,7 @@ ghost use Rattle.std.specs.Prelude.{◌≡◌, ◌≢◌, ℕ, ◌+◌, ◌^◌,
 ghost use Rattle.std.specs.List.{AllByRecursion};
 ghost use Rattle.gx_pages.specs.Contents.{IsCounted, with_bytes};
 ghost use Rattle.gx_pages.specs.Databases.{grown, unchained, chained};
-ghost use Rattle.gx_pages.specs.Frees.{HasFirst, IsFreeList, StartsBroken, KeepsHeader, Taken, Given, free_page_of};
+ghost use Rattle.gx_pages.specs.Frees.{HasFirst, IsFreeList, IsFull, StartsBroken, KeepsHeader, Taken, Given, free_page_of};
 ghost use Rattle.gx_pages.specs.Pages.{HasCause};
 ghost use Rattle.gx_pages.specs.Tables.{now_at, was_at, map_of};
 
@@ -33,7 +33,7 @@ pub fn take_page(alloc: Global, table: &mut PageTable) -> Result<u64, PageError>
     ensures grows { table.old.count ≤ table.new.count }
     ensures by_one { table.new.count ≤ table.old.count + 1 }
     ensures cause { IfErr result (HasCause 0 0 (λ at expected found. StartsBroken (map_of table.old) table.old.count)
-        (λ pages. (pages ≡ 2 ^ 50) × (table.old.count ≡ 2 ^ 50) × ((free : List ℕ) (page : ℕ) → IsFreeList (map_of table.old) table.old.count (page ∷ free) → ⊥)) (Unit {0})) }
+        (IsFull (Unit {0}) (map_of table.new) table.new.count) (Unit {0})) }
     ensures counted { IsCounted (now_at table.new) table.new.count }
     ensures was { was_at table.new ≡ was_at table.old }
     ensures committed { table.new.committed_count ≡ table.old.committed_count }

@@ -27,6 +27,3 @@ pub use row::RowRef;
 pub use rows::Rows;
 pub use steps::Steps;
 pub use store::{Pages, Store};
-
-#[cfg(test)]
-mod tests;

@@ -37,7 +37,7 @@ impl MemoryPages {
 
     /// An empty database: the header, and a catalog page without items.
     pub fn new(alloc: Global) -> Result<MemoryPages, AllocError>
-        ensures { IfOk result (IsFresh (below 2 (given (header_of 2 ∷ catalog_page ∷ [])))) }
+        ensures { IfOk result (IsFresh (below 2 (given (header_of 2 ∷ catalog_page ∷ []))) 2) }
     {
         MemoryPages::with(alloc, &[header_page(2), empty_catalog()], 2)
     }
@@ -48,7 +48,7 @@ impl MemoryPages {
         requires header { HasCount (slice_index_or pages.now 0 []) count }
         requires room { length pages.now ≤ count }
         requires most { count ≤ 2 ^ 50 }
-        ensures { IfOk result (IsFresh (below count (given pages.now))) }
+        ensures { IfOk result (IsFresh (below count (given pages.now)) count) }
     {
         let table = PageTable::new(alloc, laid(alloc, pages)?, count);
         Ok(MemoryPages {
@@ -71,7 +71,7 @@ impl MemoryPages {
 
 impl Pages for MemoryPages {
     ghost use Rattle.std.specs.Prelude.{false, refl};
-    ghost use Rattle.gx_pages.specs.Memories.{nothing_said, memory_map, memory_committed, memory_moment, memory_leaves, memory_since, memory_counted, memory_counts, memory_only};
+    ghost use Rattle.gx_pages.specs.Memories.{nothing_said, memory_map, memory_committed, memory_moment, memory_leaves, memory_since, memory_counted, memory_committed_counted, memory_counts, memory_only};
 
     ghost tells = { Unit {0} };
 
@@ -93,7 +93,7 @@ impl Pages for MemoryPages {
 
     ghost begun = { λ s. s.begun };
 
-    ghost holds = { λ s. 0 };
+    ghost committed_count = { λ s. s.table.committed_count };
 
     ghost moment = { memory_moment };
 
@@ -101,11 +101,21 @@ impl Pages for MemoryPages {
 
     ghost may_have_left_since = { memory_since };
 
+    ghost follows = { λ _ _. Unit {0} };
+
+    ghost follows_itself = { λ s. tt };
+
+    ghost follows_on = { λ a b c x y. tt };
+
     ghost counted = { λ s told. memory_counted s };
 
     ghost bounded = { λ s. s.counted.bounded };
 
-    ghost committed_may_stay = { λ s told. refl };
+    ghost committed_counted = { λ s told. memory_committed_counted s };
+
+    ghost committed_bounded = { λ s. s.committed_counted.bounded };
+
+    ghost committed_may_stay = { λ s told sound. refl };
 
     ghost counts_now = { memory_counts };
 

@@ -3,8 +3,9 @@ use Rattle.std.specs.BTreeMap.{get}
 use Rattle.std.specs.Ordering.{nat_cmp}
 use Rattle.gx_words.specs.Image.{Image}
 use Rattle.gx_log.specs.Places.{IsOpen, IsShut, cut}
-use Rattle.gx_log.specs.Records.{Record, laid, laid_all}
-use Rattle.gx_log.proofs.Bodies.{stands_same}
+use Rattle.gx_log.specs.Records.{Record, entries_in, laid, laid_all, page_in}
+use Rattle.gx_log.proofs.Bodies.{entries_in-push, stands_same}
+use Rattle.gx_log.proofs.Cutting.{length-cut}
 use Rattle.gx_log.proofs.Finding.{record_at, one_more, front_of, place_cause}
 use Rattle.gx_log.proofs.Laying.{laid_all_push}
 use Rattle.gx_log.proofs.Moves.{reads_join}
@@ -20,6 +21,7 @@ loop-end-preserved g c =
     record {
       reads = reads_join g.D.Disk c.args.disk.now c.record_end.new.disk c.lay_entries.new.disk to_there c.in-Ok-lay_entries.ensures.reads;
       within = further.1;
+      few = omega (arith, i.few, further.0);
       found = λ tells.
           let log = (g.D.Disk.told c.args.disk.now).log in
           let place = c.loop-end.place in
@@ -33,12 +35,13 @@ loop-end-preserved g c =
           subst (λ (image : Image). place + 9 + 8200 * ((end - place - 9) / 8200) ≤ length image.log) (sym to_there.told) (omega (arith, found.ends, found.within, count)) in (
             before.0 ++ record_at log place found.count ∷ [],
             one_more log place end before.0 before.1 found (omega (arith, further.0, further.1, size)),
-            λ page fits.
-                c.in-Ok-lay_entries.ensures.laid tells inside page fits
-                ∙ ap (λ (image : Image). laid (get nat_cmp c.loop-end.into page) page (cut 8 8192 ((end - place - 9) / 8200) (drop (place + 9) image.log))) to_there.told
-                ∙ ap (λ (n : ℕ). laid (get nat_cmp c.loop-end.into page) page (cut 8 8192 n (drop (place + 9) log))) count
-                ∙ ap (λ (b : _). laid b page (cut 8 8192 found.count (drop (place + 9) log))) (before.2 page fits)
-                ∙ sym (laid_all_push (get nat_cmp c.args.into.now page) page before.0 (cut 8 8192 found.count (drop (place + 9) log))),
+            omega (arith, before.2, count, entries_in-push before.0 (record_at log place found.count), length-cut 8 8192 found.count (drop (place + 9) log)),
+            λ page.
+                c.in-Ok-lay_entries.ensures.laid tells inside page
+                ∙ ap (λ (image : Image). laid (page_in (get nat_cmp c.loop-end.into page)) page (cut 8 8192 ((end - place - 9) / 8200) (drop (place + 9) image.log))) to_there.told
+                ∙ ap (λ (n : ℕ). laid (page_in (get nat_cmp c.loop-end.into page)) page (cut 8 8192 n (drop (place + 9) log))) count
+                ∙ ap (λ (b : _). laid b page (cut 8 8192 found.count (drop (place + 9) log))) (before.3 page)
+                ∙ sym (laid_all_push (page_in (get nat_cmp c.args.into.now page)) page before.0 (cut 8 8192 found.count (drop (place + 9) log))),
           );
     }
 
@@ -46,13 +49,25 @@ pub returns-in-Ok-None-clause-laid : goal.returns-in-Ok-None-clause-laid
 returns-in-Ok-None-clause-laid g c =
     let i = c.loop-end.invariant in
     let shuts = rw c.in-Ok-None.field-0-is at c.in-Ok-None.ensures.shut in
-    λ tells records stands page fits.
+    λ tells records stands page.
     let log = (g.D.Disk.told c.args.disk.now).log in
     let known : c.in-Ok.size ≡ length (g.D.Disk.told c.loop-end.disk).log = c.in-Ok.ensures.size tells ∙ ap (λ (image : Image). length image.log) (sym i.reads.told) in
     let shut : IsShut log c.loop-end.place = subst (λ (image : Image). IsShut image.log c.loop-end.place) i.reads.told (shuts tells known) in
     let before = i.found tells in
     let same : before.0 ≡ records = stands_same before.0 records log (front_of log c.loop-end.place before.0 before.1 shut).0 stands in
-    before.2 page fits ∙ ap (λ (l : List Record). laid_all (get nat_cmp c.args.into.now page) page l) same
+    before.3 page ∙ ap (λ (l : List Record). laid_all (page_in (get nat_cmp c.args.into.now page)) page l) same
+
+pub returns-in-Ok-None-clause-entries : goal.returns-in-Ok-None-clause-entries
+returns-in-Ok-None-clause-entries g c =
+    let i = c.loop-end.invariant in
+    let shuts = rw c.in-Ok-None.field-0-is at c.in-Ok-None.ensures.shut in
+    λ tells records stands.
+    let log = (g.D.Disk.told c.args.disk.now).log in
+    let known : c.in-Ok.size ≡ length (g.D.Disk.told c.loop-end.disk).log = c.in-Ok.ensures.size tells ∙ ap (λ (image : Image). length image.log) (sym i.reads.told) in
+    let shut : IsShut log c.loop-end.place = subst (λ (image : Image). IsShut image.log c.loop-end.place) i.reads.told (shuts tells known) in
+    let before = i.found tells in
+    let same : before.0 ≡ records = stands_same before.0 records log (front_of log c.loop-end.place before.0 before.1 shut).0 stands in
+    before.2 ∙ ap (λ (l : List Record). entries_in l) same
 
 pub returns-in-Ok-None-clause-counted : goal.returns-in-Ok-None-clause-counted
 returns-in-Ok-None-clause-counted g c =

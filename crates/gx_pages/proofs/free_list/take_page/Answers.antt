@@ -2,7 +2,7 @@ use Rattle.std.proofs.Common.{Some, sym, ◌∙◌, ap}
 use Rattle.gx_pages.specs.Tables.{now_at, map_of}
 use Rattle.gx_pages.proofs.Maps.{at_zero, at_page}
 use Rattle.gx_pages.proofs.Causes.{cause_weaker}
-use Rattle.gx_pages.proofs.Taking.{starts_broken, took_grown, took_unchained, keeps_same, one_free, some_free}
+use Rattle.gx_pages.proofs.Taking.{starts_broken, took_grown, took_unchained, keeps_same, one_free, some_free, full_after}
 use Rattle.gx_pages.proofs.free_list.take_page.Goals as goal
 
 pub returns-in-Ok-clause-zeros : goal.returns-in-Ok-clause-zeros
@@ -53,7 +53,7 @@ returns-in-Err-clause-cause c =
     let old = c.args.table.now in
     let there = at_zero (now_at old) old.count c.requires.some ∙ ap Some (sym c.read.ensures) in
     let none = one_free (map_of old) old.count c.read.new.into c.first_free-first.result there c.first_free-first.ensures.first c.first_free-first.ensures.fits c.if-first-eq0.true in
-    cause_weaker c.in-Err.error 0 0 _ _ _ _ _ _ (λ at expected found apart no. absurd no) (λ pages full. (full.0, full.1, none)) (λ m. m) c.in-Err.ensures.cause
+    cause_weaker c.in-Err.error 0 0 _ _ _ _ _ _ (λ at expected found apart no. absurd no) (λ pages full. full_after (map_of old) (map_of c.grow.new.table) old.count c.grow.new.table.count pages c.in-Err.ensures.same full.0 full.1 none) (λ m. m) c.in-Err.ensures.cause
 
 pub returns-in-Ok-unchain-clause-zeros : goal.returns-in-Ok-unchain-clause-zeros
 returns-in-Ok-unchain-clause-zeros c =

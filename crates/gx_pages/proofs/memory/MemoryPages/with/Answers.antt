@@ -28,6 +28,8 @@ returns c =
     record {
       now = map_same (given pages) (now_at table) c.args.count table.count now e.count;
       committed = map_same (given pages) (was_at table) c.args.count table.committed_count (e.was ∙ now) e.committed;
+      counted = e.count;
+      committed_counted = e.committed;
       begun = refl;
       fetches = refl;
       heap_fetches = refl;
