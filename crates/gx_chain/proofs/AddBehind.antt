@@ -1,5 +1,5 @@
 -- An item is added on a new page.
-use Rattle.std.proofs.Common.{◌≡◌, ◌≢◌, inr, ℕ, ◌+◌, ◌-◌, ◌^◌, ◌<◌, ◌≤◌, min, List, [], ◌∷◌, ◌++◌, length, Option, Some, refl, sym, ◌∙◌, ap, subst, append_assoc, length-append, arith}
+use Rattle.std.proofs.Common.{◌≡◌, ◌≢◌, inr, ℕ, ◌+◌, ◌-◌, ◌^◌, ◌<◌, ◌≤◌, min, List, [], ◌∷◌, ◌++◌, length, Option, Some, refl, sym, ◌∙◌, ap, subst, append_assoc, append-nil, length-append, arith}
 use Rattle.std.specs.List.{AllByRecursion}
 use Rattle.std.proofs.lemmas.List.{length-map}
 use Rattle.gx_words.specs.PageMap.{PageMap, with_page}
@@ -9,8 +9,10 @@ use Rattle.gx_pages.specs.Footprints.{IsOutside, ChangesOnly, KeepsPages, grown}
 use Rattle.gx_pages.proofs.Footprints as feet
 use Rattle.gx_slot.specs.Slots.{Slots, Fits, spelling, taken}
 use Rattle.gx_chain.specs.declared.chain.Chain.{Chain}
-use Rattle.gx_chain.specs.Chains.{Link, IsLink, AreLinked, Holds, HoldsBeside, HasRoom, Adds, first_of, pages_of, slots}
-use Rattle.gx_chain.proofs.Links.{pages_end, first_same, linked_last, linked_some, linked_same, each_left}
+use Rattle.gx_chain.specs.Chains.{Link, IsLink, AreLinked, Holds, HoldsBeside, HasRoom, entries_of, first_of, pages_of, slots}
+use Rattle.gx_chain.proofs.AddHere.{Added}
+use Rattle.gx_chain.proofs.Entries.{entries_append}
+use Rattle.gx_chain.proofs.Links.{Ends, ends_of, pages_end, first_same, last_mid, linked_last, linked_some, linked_same, each_left}
 
 module _ {P : Type 0} (g : Ghosts P) (old new : P) (kind : ℕ) (chain : Chain) (pages : ℕ) (item : List ℕ) (page slot : ℕ) (found : Slots) (middle : PageMap) (fresh end : List ℕ)
     (one : (s : Slots) → g.map old chain.last ≡ Some (spelling s) → Fits s → found ≡ s) (page_fits : page < 2 ^ 64)
@@ -58,7 +60,7 @@ module _ {P : Type 0} (g : Ghosts P) (old new : P) (kind : ℕ) (chain : Chain) 
 
     same_front : AllByRecursion (λ n. g.map new n ≡ g.map old n) (pages_of front)
     same_front =
-        let some = subst (λ (l : List ℕ). AllByRecursion (λ (n : ℕ). n ≢ 0) l) (pages_end front (chain.last, items)) (linked_some (g.map old) kind before held.held.linked) in
+        let some = subst (λ (l : List ℕ). AllByRecursion (λ (n : ℕ). n ≢ 0) l) (pages_end front (chain.last, items)) (linked_some (g.map old) kind 0 before held.held.linked) in
         feet.all_same (g.map old) (g.map new) (chain.last ∷ page ∷ []) (pages_of front) only_two
         (feet.all_left (λ (n : ℕ). n ≢ 0) (pages_of front) (chain.last ∷ []) some)
         (feet.all_weaker (λ (n : ℕ). IsOutside n (chain.last ∷ (page ∷ rest))) (λ (n : ℕ). IsOutside n (chain.last ∷ page ∷ [])) (pages_of front) (λ n out. (out.0, (out.1.0, tt)))
@@ -97,15 +99,14 @@ module _ {P : Type 0} (g : Ghosts P) (old new : P) (kind : ℕ) (chain : Chain) 
     new_holds : Holds (g.map new) (g.count new) kind longer after
     new_holds = record {
       linked = subst (λ (l : List Link). AreLinked (g.map new) kind l) (sym regroup)
-          (linked_same (g.map old) (g.map new) kind front (chain.last, items) (chain.last, items) ((page, Some item ∷ []) ∷ []) refl same_front held.held.linked (last_link, (page_link, tt)));
+          (linked_same (g.map old) (g.map new) kind front (chain.last, items) (chain.last, items) [] ((page, Some item ∷ []) ∷ []) refl same_front held.held.linked (last_link, (page_link, tt)));
       apart = feet.apart_left (pages_of after) rest apart_after;
       below = subst (λ (l : List ℕ). AllByRecursion (λ (n : ℕ). n < g.count new) l) (sym feet_after)
           (feet.all_join (λ (n : ℕ). n < g.count new) (pages_of before) (page ∷ [])
           (feet.all_weaker (λ (n : ℕ). n < g.count old) (λ (n : ℕ). n < g.count new) (pages_of before) (λ n here. omega arith) held.held.below) (below, tt));
       first = held.held.first ∙ first_same front (chain.last, items) (chain.last, items) [] ((page, Some item ∷ []) ∷ []) refl ∙ ap (λ (l : List Link). first_of l) (sym regroup);
-      front = before;
-      items = Some item ∷ [];
-      ends = refl;
+      some = omega (arith, length-append before ((page, Some item ∷ []) ∷ []));
+      last = sym (last_mid 0 before (page, Some item ∷ []) []);
       bound = (let at_most = held.held.bound in omega (arith, few, at_most, more, bounded, length-append before ((page, Some item ∷ []) ∷ [])));
     }
 
@@ -126,30 +127,24 @@ module _ {P : Type 0} (g : Ghosts P) (old new : P) (kind : ℕ) (chain : Chain) 
     no_room : HasRoom items item → ⊥
     no_room room = let same = ap (λ (s : Slots). taken s.items) is_slots in omega (arith, room, full, same)
 
-    behind : (later : List Link) × (left : List ℕ) × HoldsBeside g new kind longer later left × Adds before later page slot item
-        × KeepsPages g old new (pages_of before) free (pages_of later) left × (chain.pages ≡ length before → pages ≡ length later)
+    behind : Added g old new kind chain longer page slot item before free
     behind = (
       after,
       rest,
       record { held = new_holds; frees = new_frees; apart = apart_after },
       record { front = front; last = (chain.last, items); was = refl; is = inr (no_room, place, refl) },
-      record {
-        others = only;
-        header = feet.header_same (g.map old) middle (g.map new) header (put_other 0 (λ same. link.some (sym same)) (λ same. taken_page.nonzero (sym same)));
-        frees = new_frees;
-        kept = feet.same_pages (pages_of before ++ free ++ grown (g.count old) (g.count new)) (pages_of after ++ rest)
-            (feet.taken_pages (g.map old) middle (g.count old) (g.count new) page free rest (pages_of before) taken_page ∙ sym feet_rest);
-      },
+      entries_append before ((page, Some item ∷ []) ∷ []) ∙ ap (λ (n : ℕ). entries_of before ++ record { page = page; slot = n; item = item } ∷ []) (sym place),
+      feet.keeps_of g old new (pages_of before) free (pages_of after) rest grows only
+          (feet.header_same (g.map old) middle (g.map new) header (put_other 0 (λ same. link.some (sym same)) (λ same. taken_page.nonzero (sym same)))) new_frees
+          (feet.same_pages (pages_of before ++ free ++ grown (g.count old) (g.count new)) (pages_of after ++ rest)
+          (feet.taken_pages (g.map old) middle (g.count old) (g.count new) page free rest (pages_of before) taken_page ∙ sym feet_rest)),
       λ all. omega (arith, all, few, more, bounded, length-append before ((page, Some item ∷ []) ∷ [])),
     )
 
   pub added_behind : ((free : List ℕ) → IsFreeList (g.map old) (g.count old) free → (rest : List ℕ) × Taken (g.map old) middle (g.count old) (g.count new) page free rest)
-      → (links : List Link) (free : List ℕ) → HoldsBeside g old kind chain links free → (later : List Link) × (rest : List ℕ) × HoldsBeside g new kind longer later rest
-      × Adds links later page slot item × KeepsPages g old new (pages_of links) free (pages_of later) rest × (chain.pages ≡ length links → pages ≡ length later)
+      → (links : List Link) (free : List ℕ) → HoldsBeside g old kind chain links free → Added g old new kind chain longer page slot item links free
   added_behind takes links free held =
       let taken_page = takes free held.frees in
-      subst
-      (λ (l : List Link). (later : List Link) × (rest : List ℕ) × HoldsBeside g new kind longer later rest × Adds l later page slot item
-      × KeepsPages g old new (pages_of l) free (pages_of later) rest × (chain.pages ≡ length l → pages ≡ length later))
-      (sym held.held.ends)
-      (behind free taken_page.0 taken_page.1 held.held.front held.held.items (subst (λ (l : List Link). HoldsBeside g old kind chain l free) held.held.ends held))
+      let ends = ends_of (g.map old) (g.count old) kind chain links held.held in
+      subst (λ (l : List Link). Added g old new kind chain longer page slot item l free) (sym ends.ends)
+      (behind free taken_page.0 taken_page.1 ends.front ends.items (subst (λ (l : List Link). HoldsBeside g old kind chain l free) ends.ends held))

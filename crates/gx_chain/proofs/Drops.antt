@@ -12,7 +12,7 @@ use Rattle.gx_pages.proofs.Footprints as feet
 use Rattle.gx_slot.specs.Slots.{Slots, Fits, IsSlotPage, spelling}
 use Rattle.gx_chain.specs.declared.chain.Chain.{Chain}
 use Rattle.gx_chain.specs.Chains.{Link, AreLinked, HoldsBeside, first_of, pages_of, slots}
-use Rattle.gx_chain.proofs.Links.{link_same, linked_some, pages_end}
+use Rattle.gx_chain.proofs.Links.{linked_some, linked_stays, none_next, pages_end}
 
 -- the pages `done` are given, those that are left are linked still, and these are free
 pub record Drops {P : Type 0} (g : Ghosts P) (old now : P) (kind : ℕ) (links : List Link) (free : List ℕ) (page count : ℕ) : Type 0 where
@@ -27,13 +27,6 @@ pub record Drops {P : Type 0} (g : Ghosts P) (old now : P) (kind : ℕ) (links :
   pub others : ChangesOnly (g.map old) (g.map now) (pages_of links)
   pub header : KeepsHeader (g.map old) (g.map now)
   pub len : length done ≡ count
-
-pub linked_stays : (old new : PageMap) (kind : ℕ) (links : List Link) → AllByRecursion (λ page. new page ≡ old page) (pages_of links) → AreLinked old kind links → AreLinked new kind links
-linked_stays old new kind [] same linked = tt
-linked_stays old new kind (link ∷ links) same linked = (
-  link_same old new kind (first_of links) (first_of links) link same.0 refl linked.0,
-  linked_stays old new kind links same.1 linked.1,
-)
 
 module _ {P : Type 0} (g : Ghosts P) (old : P) (kind : ℕ) (chain : Chain) (links : List Link) (free : List ℕ) (held : HoldsBeside g old kind chain links free) where
   pub drops_none : Drops g old old kind links free chain.first 0
@@ -72,9 +65,9 @@ module _ {P : Type 0} (g : Ghosts P) (old : P) (kind : ℕ) (chain : Chain) (lin
           (ap (λ (l : List Link). pages_of l) (drops.cut ∙ ap (λ (l : List Link). drops.done ++ l) is) ∙ map-append (λ (l : Link). l.0) drops.done (link ∷ left)) held.held.below in
           let here = (feet.all_right (λ (n : ℕ). n < g.count old) (pages_of drops.done) (pages_of (link ∷ left)) below).0 in omega arith
 
-      sound : (page < g.count now → (bytes : List ℕ) → g.map now page ≡ Some bytes → ¬ IsSlotPage bytes kind) → ⊥
+      sound : (page ≢ 0 → page < g.count now → (bytes : List ℕ) → g.map now page ≡ Some bytes → ¬ IsSlotPage bytes kind) → ⊥
       sound broken =
-          broken (omega (arith, at_link, below_link)) (spelling (slots kind (first_of left) link.1)) (ap (λ (n : ℕ). g.map now n) at_link ∙ linked.0.is)
+          broken (λ none. linked.0.some (sym at_link ∙ none)) (omega (arith, at_link, below_link)) (spelling (slots kind (first_of left) link.1)) (ap (λ (n : ℕ). g.map now n) at_link ∙ linked.0.is)
           (slots kind (first_of left) link.1, refl, linked.0.fits, refl)
 
       -- the page stands nowhere else
@@ -109,7 +102,7 @@ module _ {P : Type 0} (g : Ghosts P) (old : P) (kind : ℕ) (chain : Chain) (lin
           (only : (n : ℕ) → n ≢ 0 → n ≢ page → g.map new n ≡ g.map now n) (header : KeepsHeader (g.map now) (g.map new)) (count_same : g.count new ≡ g.count now)
           (given : (list : List ℕ) → IsFreeList (g.map now) (g.count now) list → AllByRecursion (λ other. page ≢ other) list → Given (g.map now) (g.map new) (g.count now) page list) where
         stays : AllByRecursion (λ n. g.map new n ≡ g.map now n) (pages_of left)
-        stays = feet.all_same (g.map now) (g.map new) (page ∷ []) (pages_of left) (λ n some outside. only n some outside.0) (linked_some (g.map now) kind left linked.1)
+        stays = feet.all_same (g.map now) (g.map new) (page ∷ []) (pages_of left) (λ n some outside. only n some outside.0) (linked_some (g.map now) kind 0 left linked.1)
             (feet.all_weaker (λ (n : ℕ). page ≢ n) (λ (n : ℕ). IsOutside n (page ∷ [])) (pages_of left) (λ n differ. ((λ same. differ (sym same)), tt)) once_left)
 
         moved : IsPermutation (pages_of (drops.done ++ link ∷ []) ++ free) (page ∷ drops.rest)
@@ -133,7 +126,7 @@ module _ {P : Type 0} (g : Ghosts P) (old : P) (kind : ℕ) (chain : Chain) (lin
           left = left;
           rest = page ∷ drops.rest;
           cut = drops.cut ∙ ap (λ (l : List Link). drops.done ++ l) is ∙ sym (append_assoc drops.done (link ∷ []) left);
-          linked = linked_stays (g.map now) (g.map new) kind left stays linked.1;
+          linked = linked_stays (g.map now) (g.map new) kind 0 left stays linked.1;
           at = goes ∙ ap (λ (s : Slots). s.next) (one (slots kind (first_of left) link.1) (ap (λ (n : ℕ). g.map now n) at_link ∙ linked.0.is) linked.0.fits);
           frees = subst (λ (n : ℕ). IsFreeList (g.map new) n (page ∷ drops.rest)) (sym count_same) (given drops.rest drops.frees once_free).frees;
           moved = moved;
@@ -146,23 +139,15 @@ module _ {P : Type 0} (g : Ghosts P) (old : P) (kind : ℕ) (chain : Chain) (lin
     all_given : drops.left ≡ [] → g.count now ≡ g.count old → KeepsPages g old now (pages_of links) free [] drops.rest
     all_given none same_count =
         let all : links ≡ drops.done = drops.cut ∙ ap (λ (l : List Link). drops.done ++ l) none ∙ append-nil drops.done in
-        record {
-          others = subst (λ (l : List ℕ). ChangesOnly (g.map old) (g.map now) l) (sym (append-nil (pages_of links))) drops.others;
-          header = drops.header;
-          frees = drops.frees;
-          kept = subst (λ (l : List ℕ). IsPermutation l drops.rest)
-              (sym (ap (λ (l : List Link). pages_of l ++ free ++ grown (g.count old) (g.count now)) all
-              ∙ ap (λ (l : List ℕ). pages_of drops.done ++ free ++ l) (feet.same_count (g.count old) (g.count now) (sym same_count)) ∙ append-nil (pages_of drops.done ++ free)))
-              drops.moved;
-        }
-
-    -- no page is left where the next one is none, and after as many steps as there are pages
-    none_next : (left : List Link) → AreLinked (g.map now) kind left → first_of left ≡ 0 → left ≡ []
-    none_next [] are end = refl
-    none_next (link ∷ left) are end = absurd (are.0.some end)
+        feet.keeps_of g old now (pages_of links) free [] drops.rest (omega (arith, same_count))
+        (subst (λ (l : List ℕ). ChangesOnly (g.map old) (g.map now) l) (sym (append-nil (pages_of links))) drops.others) drops.header drops.frees
+        (subst (λ (l : List ℕ). IsPermutation l drops.rest)
+        (sym (ap (λ (l : List Link). pages_of l ++ free ++ grown (g.count old) (g.count now)) all
+        ∙ ap (λ (l : List ℕ). pages_of drops.done ++ free ++ l) (feet.same_count (g.count old) (g.count now) (sym same_count)) ∙ append-nil (pages_of drops.done ++ free)))
+        drops.moved)
 
     pub ended : page ≡ 0 → g.count now ≡ g.count old → (rest : List ℕ) × KeepsPages g old now (pages_of links) free [] rest
-    ended zero same_count = (drops.rest, all_given (none_next drops.left drops.linked (sym drops.at ∙ zero)) same_count)
+    ended zero same_count = (drops.rest, all_given (none_next (g.map now) kind drops.left drops.linked (sym drops.at ∙ zero)) same_count)
 
     no_more : (left : List Link) → drops.left ≡ left → length links ≤ count → first_of left ≡ 0
     no_more [] is enough = refl
@@ -174,7 +159,7 @@ module _ {P : Type 0} (g : Ghosts P) (old : P) (kind : ℕ) (chain : Chain) (lin
     pub walked : chain.pages ≤ count → page ≡ 0
     walked enough = let bound = held.held.bound in drops.at ∙ no_more drops.left refl (omega (arith, bound, enough))
 
-    pub drops_sound : page ≢ 0 → g.count now ≡ g.count old → (page < g.count now → (bytes : List ℕ) → g.map now page ≡ Some bytes → ¬ IsSlotPage bytes kind) → ⊥
+    pub drops_sound : page ≢ 0 → g.count now ≡ g.count old → (page ≢ 0 → page < g.count now → (bytes : List ℕ) → g.map now page ≡ Some bytes → ¬ IsSlotPage bytes kind) → ⊥
     drops_sound some same_count broken = at_left drops.left refl
       where
         at_left : (left : List Link) → drops.left ≡ left → ⊥

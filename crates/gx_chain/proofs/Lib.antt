@@ -1,6 +1,9 @@
 pub mod AddBehind
 pub mod AddHere
 pub mod Drops
+pub mod Entries
 pub mod Links
 pub mod Made
+pub mod Putting
+pub mod Unlinks
 pub mod Walks

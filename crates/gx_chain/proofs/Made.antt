@@ -1,5 +1,5 @@
 -- A chain without items, on a page that was taken.
-use Rattle.std.proofs.Common.{◌≡◌, ℕ, ◌<◌, List, [], ◌∷◌, ◌++◌, Some, refl, sym, ◌∙◌, ap, subst, arith}
+use Rattle.std.proofs.Common.{◌≡◌, ℕ, ◌<◌, ◌≤◌, List, [], ◌∷◌, ◌++◌, Some, refl, sym, ◌∙◌, ap, subst, arith}
 use Rattle.gx_words.specs.PageMap.{PageMap, with_page}
 use Rattle.gx_pages.specs.declared.store.Pages.{Ghosts}
 use Rattle.gx_pages.specs.Frees.{IsApart, IsFreeList, KeepsHeader, Taken}
@@ -10,7 +10,7 @@ use Rattle.gx_chain.specs.declared.chain.Chain.{Chain}
 use Rattle.gx_chain.specs.Chains.{IsLink, Holds, HoldsBeside, slots}
 
 module _ {P : Type 0} (g : Ghosts P) (old new : P) (kind page : ℕ) (middle : PageMap) (bytes : List ℕ)
-    (spelled : bytes ≡ spelling (slots kind 0 [])) (fits : Fits (slots kind 0 [])) (below : page < g.count new) (header : KeepsHeader (g.map old) middle)
+    (spelled : bytes ≡ spelling (slots kind 0 [])) (fits : Fits (slots kind 0 [])) (below : page < g.count new) (grows : g.count old ≤ g.count new) (header : KeepsHeader (g.map old) middle)
     (put : g.map new ≡ with_page middle page bytes)
     (takes : (free : List ℕ) → IsFreeList (g.map old) (g.count old) free → (rest : List ℕ) × Taken (g.map old) middle (g.count old) (g.count new) page free rest) where
   abbrev chain : Chain
@@ -36,9 +36,8 @@ module _ {P : Type 0} (g : Ghosts P) (old new : P) (kind page : ℕ) (middle : P
       apart = (tt, tt);
       below = (below, tt);
       first = refl;
-      front = [];
-      items = [];
-      ends = refl;
+      some = omega arith;
+      last = refl;
       bound = omega arith;
     }
 
@@ -51,12 +50,9 @@ module _ {P : Type 0} (g : Ghosts P) (old new : P) (kind page : ℕ) (middle : P
       let has = takes free list in (
         has.0,
         record { held = holds free list has.0 has.1; frees = frees free list has.0 has.1; apart = apart free list has.0 has.1 },
-        record {
-          others = only free list has.0 has.1;
-          header = feet.header_same (g.map old) middle (g.map new) header
-              (ap (λ (m : PageMap). m 0) put ∙ feet.with_other middle page bytes 0 (λ same. has.1.nonzero (sym same)));
-          frees = frees free list has.0 has.1;
-          kept = feet.same_pages ([] ++ free ++ grown (g.count old) (g.count new)) ((page ∷ []) ++ has.0)
-              (feet.taken_pages (g.map old) middle (g.count old) (g.count new) page free has.0 [] has.1);
-        },
+        feet.keeps_of g old new [] free (page ∷ []) has.0 grows (only free list has.0 has.1)
+            (feet.header_same (g.map old) middle (g.map new) header (ap (λ (m : PageMap). m 0) put ∙ feet.with_other middle page bytes 0 (λ same. has.1.nonzero (sym same))))
+            (frees free list has.0 has.1)
+            (feet.same_pages ([] ++ free ++ grown (g.count old) (g.count new)) ((page ∷ []) ++ has.0)
+            (feet.taken_pages (g.map old) middle (g.count old) (g.count new) page free has.0 [] has.1)),
       )

@@ -1,17 +1,20 @@
 //! A chain of slot pages.
 
-ghost use Rattle.std.specs.Prelude.{◌≡◌, ℕ, ◌+◌, ◌*◌, ◌^◌, ◌<◌, ◌≤◌, List, [], ◌∷◌, ◌++◌, length, Option, Some, IfOk, IfErr, OnOk, OnErr};
-ghost use Rattle.std.specs.List.{filter_map};
+ghost use Rattle.std.specs.Prelude.{◌≡◌, ◌≢◌, ℕ, ◌+◌, ◌<◌, ◌≤◌, List, [], ◌∷◌, ◌++◌, length, Option, Some, IfOk, IfErr, OnOk, OnErr};
 ghost use Rattle.gx_pages.specs.Footprints.{KeepsPages, StaysQuiet};
-ghost use Rattle.gx_pages.specs.Frees.{IsFreeList};
+ghost use Rattle.gx_pages.specs.Frees.{IsFreeList, IsFull};
 ghost use Rattle.gx_pages.specs.Pages.{HasCause};
-ghost use Rattle.gx_chain.specs.Chains.{Link, Holds, HoldsBeside, HasRoom, Adds, items_of, pages_of};
+ghost use Rattle.gx_chain.specs.Chains.{Link, Holds, HoldsBeside, HoldsNone, BeginsNone, ListsNone, HasRoom, Adds, IsSound, entries_of, first_of, pages_of};
+ghost use Rattle.gx_chain.specs.declared.entry.Entry.{Entry};
 
-use crate::reading::fetch_slots;
-use gx_bytes::Bytes;
-use gx_pages::{PageError, Pages};
+use crate::entry::Entry;
+use crate::reading::{fetch_slots, push_entries};
+use crate::trail::Trail;
+use crate::writing::put_slots;
+use gx_pages::{PageError, Pages, Steps};
 use gx_slot::SlotPage;
 use std::alloc::Global;
+use std::sync::ledger::Ledger;
 
 /// A chain of slot pages of one kind, which holds a list of items: its first and its last page, and a bound of how many
 /// pages it has, which bounds every walk over it. It has at least one.
@@ -32,9 +35,7 @@ impl Chain {
         ensures grows { P.count pages.old ≤ P.count pages.new }
         ensures by_one { P.count pages.new ≤ P.count pages.old + 1 }
         ensures cause { IfErr result (HasCause (P.faults pages.old) (P.faults pages.new)
-            (λ at expected found. P.tells → (free : List ℕ) → IsFreeList (P.map pages.old) (P.count pages.old) free → ⊥)
-            (λ count. (count ≡ 2 ^ 50) × (P.count pages.old ≡ 2 ^ 50)
-            × (P.tells → (page : ℕ) (free : List ℕ) → IsFreeList (P.map pages.old) (P.count pages.old) (page ∷ free) → ⊥)) (Unit {0})) }
+            (λ at expected found. P.tells → ListsNone P.Pages pages.old) (IsFull P.tells (P.map pages.new) (P.count pages.new)) (Unit {0})) }
         ensures heap { P.heap_fetches pages.new ≡ P.heap_fetches pages.old }
         ensures quiet { StaysQuiet P.Pages pages.old pages.new }
     {
@@ -59,7 +60,7 @@ impl Chain {
         requires { length item.now ≤ 8172 }
         ensures added { IfOk result (λ at. P.tells → (links : List Link) (free : List ℕ) → HoldsBeside P.Pages pages.old kind self.old links free
             → (later : List Link) × (rest : List ℕ) × HoldsBeside P.Pages pages.new kind self.new later rest
-            × Adds links later at.0 at.1 item.now
+            × Adds links later at.0 at.1 item.now × (entries_of later ≡ entries_of links ++ record { page = at.0; slot = at.1; item = item.now } ∷ [])
             × KeepsPages P.Pages pages.old pages.new (pages_of links) free (pages_of later) rest
             × (self.old.pages ≡ length links → self.new.pages ≡ length later)) }
         ensures first { self.new.first ≡ self.old.first }
@@ -69,24 +70,16 @@ impl Chain {
         ensures grows { P.count pages.old ≤ P.count pages.new }
         ensures by_one { P.count pages.new ≤ P.count pages.old + 1 }
         ensures cause { IfErr result (HasCause (P.faults pages.old) (P.faults pages.new)
-            (λ at expected found. P.tells → (links : List Link) (free : List ℕ) → HoldsBeside P.Pages pages.old kind self.old links free → ⊥)
-            (λ count. (count ≡ 2 ^ 50) × (P.count pages.old ≡ 2 ^ 50)
-            × (P.tells → (page : ℕ) (free : List ℕ) → IsFreeList (P.map pages.old) (P.count pages.old) (page ∷ free) → ⊥)
-            × (P.tells → (front : List Link) (items : List (Option (List ℕ)))
+            (λ at expected found. P.tells → HoldsNone P.Pages pages.old kind self.old)
+            (λ count. IsFull P.tells (P.map pages.new) (P.count pages.new) count × (P.tells → (front : List Link) (items : List (Option (List ℕ)))
             → Holds (P.map pages.old) (P.count pages.old) kind self.old (front ++ (self.old.last, items) ∷ []) → ¬ HasRoom items item.now)) (Unit {0})) }
         ensures heap { P.heap_fetches pages.new ≤ P.heap_fetches pages.old + 1 }
+        ensures other { kind ≢ 2 → IsSound result → P.heap_fetches pages.new ≡ P.heap_fetches pages.old }
         ensures quiet { StaysQuiet P.Pages pages.old pages.new }
     {
-        if self.last == 0 {
-            return Err(PageError::Broken {
-                page: 0,
-                expected: 1,
-                found: 0,
-            });
-        }
         let mut slots = fetch_slots(pages, self.last, kind)?;
         if let Ok(slot) = slots.add(item) {
-            pages.put(self.last, slots.page())?;
+            put_slots(pages, self.last, &slots)?;
             return Ok((self.last, slot));
         }
         let page = pages.take()?;
@@ -102,50 +95,124 @@ impl Chain {
         Ok((page, slot))
     }
 
-    /// The items in order.
-    pub fn items<P: Pages>(
-        &self,
+    /// The chain that begins at this page, and its items in order. Broken where no chain of this kind begins there, a circle
+    /// too, which is found when it closes.
+    pub fn open<P: Pages>(
         alloc: Global,
         pages: &mut P,
         kind: u8,
-    ) -> Result<Vec<Bytes>, PageError>
-        ensures items { IfOk result (λ items. P.tells → (links : List Link) → Holds (P.map pages.old) (P.count pages.old) kind self.now links
-            → items.items ≡ items_of links) }
+        first: u64,
+    ) -> Result<(Chain, Vec<Entry>), PageError>
+        ensures linked { IfOk result (λ opened. P.tells → (links : List Link) × Holds (P.map pages.old) (P.count pages.old) kind opened.0 links
+            × (opened.1.items ≡ entries_of links) × (opened.0.pages ≡ length links)) }
+        ensures first { IfOk result (λ opened. opened.0.first ≡ first) }
         ensures cause { IfErr result (HasCause (P.faults pages.old) (P.faults pages.new)
-            (λ at expected found. P.tells → (links : List Link) → Holds (P.map pages.old) (P.count pages.old) kind self.now links → ⊥) (λ _. ⊥) (Unit {0})) }
+            (λ at expected found. P.tells → BeginsNone (P.map pages.old) (P.count pages.old) kind first) (λ _. ⊥) (Unit {0})) }
         ensures map { P.map pages.new ≡ P.map pages.old }
         ensures count { P.count pages.new ≡ P.count pages.old }
-        ensures heap { P.heap_fetches pages.new ≤ P.heap_fetches pages.old + self.now.pages }
+        ensures other { kind ≢ 2 → IsSound result → P.heap_fetches pages.new ≡ P.heap_fetches pages.old }
         ensures quiet { StaysQuiet P.Pages pages.old pages.new }
     {
-        let mut items = Vec::new(alloc);
-        let mut page = self.first;
-        for _ in 0..self.pages {
-            if page == 0 {
-                return Ok(items);
-            }
+        let mut entries = Vec::new(alloc);
+        let mut trail = Trail::new();
+        let mut page = first;
+        for passed in 0..u64::MAX {
             let slots = fetch_slots(pages, page, kind)?;
-            push_items(alloc, &slots, &mut items)?;
-            page = slots.next();
+            let level = slots.level();
+            if level != 0 {
+                return Err(PageError::Broken {
+                    page,
+                    expected: 0,
+                    found: u64::from(level),
+                });
+            }
+            if !trail.passes(page) {
+                return Err(unended(page));
+            }
+            let next = slots.next();
+            push_entries(alloc, page, &slots, &mut entries)?;
+            if next == 0 {
+                let chain = Chain {
+                    first,
+                    last: page,
+                    pages: passed + 1,
+                };
+                return Ok((chain, entries));
+            }
+            page = next;
         }
-        if page != 0 {
-            return Err(PageError::Broken {
-                page,
-                expected: 0,
-                found: page,
-            });
-        }
-        Ok(items)
+        Err(unended(page))
     }
 
-    /// Gives every page back. There is no chain then.
-    pub fn drop_all<P: Pages>(self, pages: &mut P, kind: u8) -> Result<(), PageError>
+    /// Takes the first page out of the chain and gives it back: `next`, the page behind it, is the first one then.
+    pub fn unlink_first<P: Pages>(
+        &mut self,
+        pages: &mut P,
+        page: u64,
+        next: u64,
+    ) -> Result<(), PageError>
+        requires nonzero { page ≢ 0 }
+        requires below { page < P.count pages.old }
+        ensures unlinked { OnOk result (P.tells → next ≢ 0 → (kind : ℕ) (back : List Link) (items : List (Option (List ℕ))) (free : List ℕ)
+            → HoldsBeside P.Pages pages.old kind self.old ((page, items) ∷ back) free → next ≡ first_of back
+            → HoldsBeside P.Pages pages.new kind self.new back (page ∷ free)
+            × KeepsPages P.Pages pages.old pages.new (page ∷ pages_of back) free (pages_of back) (page ∷ free)) }
+        ensures chain { OnOk result (self.new ≡ record self.old { first = next }) }
+        ensures same { OnErr result (self.new ≡ self.old) }
+        ensures count { P.count pages.new ≡ P.count pages.old }
+        ensures cause { IfErr result (HasCause (P.faults pages.old) (P.faults pages.new) (λ _ _ _. ⊥) (λ _. ⊥) (Unit {0})) }
+        ensures heap { P.heap_fetches pages.new ≡ P.heap_fetches pages.old }
+        ensures quiet { StaysQuiet P.Pages pages.old pages.new }
+    {
+        pages.give(page)?;
+        self.first = next;
+        Ok(())
+    }
+
+    /// Takes a page out of the chain and gives it back: the page `before` it names `next` then, the page behind it.
+    pub fn unlink_behind<P: Pages>(
+        &self,
+        pages: &mut P,
+        kind: u8,
+        before: u64,
+        page: u64,
+        next: u64,
+    ) -> Result<(), PageError>
+        requires nonzero { page ≢ 0 }
+        requires below { page < P.count pages.old }
+        ensures unlinked { OnOk result (P.tells → next ≢ 0 → (front back : List Link) (others items : List (Option (List ℕ))) (free : List ℕ)
+            → HoldsBeside P.Pages pages.old kind self.now (front ++ (before, others) ∷ (page, items) ∷ back) free → next ≡ first_of back
+            → HoldsBeside P.Pages pages.new kind self.now (front ++ (before, others) ∷ back) (page ∷ free)
+            × KeepsPages P.Pages pages.old pages.new (pages_of (front ++ (before, others) ∷ (page, items) ∷ back)) free (pages_of (front ++ (before, others) ∷ back)) (page ∷ free)) }
+        ensures count { P.count pages.new ≡ P.count pages.old }
+        ensures cause { IfErr result (HasCause (P.faults pages.old) (P.faults pages.new)
+            (λ at expected found. P.tells → (front back : List Link) (others : List (Option (List ℕ)))
+            → Holds (P.map pages.old) (P.count pages.old) kind self.now (front ++ (before, others) ∷ back) → ⊥) (λ _. ⊥) (Unit {0})) }
+        ensures heap { P.heap_fetches pages.new ≤ P.heap_fetches pages.old + 1 }
+        ensures other { kind ≢ 2 → IsSound result → P.heap_fetches pages.new ≡ P.heap_fetches pages.old }
+        ensures quiet { StaysQuiet P.Pages pages.old pages.new }
+    {
+        let mut slots = fetch_slots(pages, before, kind)?;
+        slots.set_next(next);
+        pages.put(before, slots.page())?;
+        pages.give(page)?;
+        Ok(())
+    }
+
+    /// Gives every page back. There is no chain then. A step is counted for each page that is fetched.
+    pub fn drop_all<P: Pages, L: Ledger>(
+        self,
+        pages: &mut P,
+        kind: u8,
+        steps: &mut Steps<L>,
+    ) -> Result<(), PageError>
         ensures dropped { OnOk result (P.tells → (links : List Link) (free : List ℕ) → HoldsBeside P.Pages pages.old kind self links free
             → (rest : List ℕ) × KeepsPages P.Pages pages.old pages.new (pages_of links) free [] rest) }
         ensures count { P.count pages.new ≡ P.count pages.old }
         ensures cause { IfErr result (HasCause (P.faults pages.old) (P.faults pages.new)
-            (λ at expected found. P.tells → (links : List Link) (free : List ℕ) → HoldsBeside P.Pages pages.old kind self links free → ⊥) (λ _. ⊥) (Unit {0})) }
-        ensures heap { P.heap_fetches pages.new ≤ P.heap_fetches pages.old + self.pages }
+            (λ at expected found. P.tells → HoldsNone P.Pages pages.old kind self) (λ _. ⊥) (Unit {0})) }
+        ensures ticks { P.heap_fetches pages.new + steps.old ≤ P.heap_fetches pages.old + steps.new }
+        ensures most { steps.new ≤ steps.old + self.pages }
         ensures quiet { StaysQuiet P.Pages pages.old pages.new }
     {
         let mut page = self.first;
@@ -153,35 +220,25 @@ impl Chain {
             if page == 0 {
                 return Ok(());
             }
+            steps.tick();
             let slots = fetch_slots(pages, page, kind)?;
             pages.give(page)?;
             page = slots.next();
         }
         if page != 0 {
-            return Err(PageError::Broken {
-                page,
-                expected: 0,
-                found: page,
-            });
+            return Err(unended(page));
         }
         Ok(())
     }
 }
 
-// Adds the items of a page.
-fn push_items(alloc: Global, slots: &SlotPage, items: &mut Vec<Bytes>) -> Result<(), PageError>
-    ensures ok { OnOk result (items.new.items ≡ items.old.items ++ filter_map (λ item. item) slots.now.items) }
-    ensures err { IfErr result (λ error. error ≡ PageError.Memory) }
+// The chain goes on with this page, where it has to end.
+fn unended(page: u64) -> PageError
+    ensures { result ≡ PageError.Broken page 0 page }
 {
-    for slot in 0..slots.count() {
-        if let Some(item) = slots.item(slot) {
-            let Ok(bytes) = Bytes::from_slice(alloc, item) else {
-                return Err(PageError::Memory);
-            };
-            let Ok(()) = items.push(bytes) else {
-                return Err(PageError::Memory);
-            };
-        }
+    PageError::Broken {
+        page,
+        expected: 0,
+        found: page,
     }
-    Ok(())
 }

@@ -2,10 +2,15 @@
 #![tactic(auto)]
 
 mod chain;
+mod entry;
+mod laws;
 mod reading;
+mod trail;
+mod writing;
 
 pub use chain::Chain;
+pub use entry::Entry;
+pub use laws::one_chain;
 pub use reading::fetch_slots;
-
-#[cfg(test)]
-mod tests;
+pub use trail::Trail;
+pub use writing::put_slots;

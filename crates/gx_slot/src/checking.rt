@@ -24,10 +24,20 @@ pub fn is_spelled(page: &[u8]) -> bool
     are_zeros(&page[table..start])
 }
 
+// A page of zeros, to compare with.
+static ZEROS: [u8; 8192] = [0; 8192];
+
 fn are_zeros(part: &[u8]) -> bool
+    requires { length part.now ≤ 8192 }
     ensures { IsTrue result ↔ (part.now ≡ replicate (length part.now) 0) }
 {
-    part.iter().all(|byte| *byte == 0)
+    are_equal(part, &ZEROS[..part.len()])
+}
+
+fn are_equal(one: &[u8], other: &[u8]) -> bool
+    ensures { IsTrue result ↔ (one.now ≡ other.now) }
+{
+    one == other
 }
 
 /// Where the items of the table begin. None where an entry isn't as it has to be.

@@ -2,13 +2,10 @@
 #![tactic(auto)]
 
 mod checking;
-mod law;
+mod laws;
 mod layout;
 mod slot_page;
 
-pub use law::one_page;
+pub use laws::one_page;
 pub use layout::NoRoom;
 pub use slot_page::SlotPage;
-
-#[cfg(test)]
-mod tests;

@@ -13,12 +13,12 @@ returns-in_err-first-clause-cause g c =
     (cause_weaker c.in_err-first.field-0.0 (g.P.Pages.faults c.args.pages.now) (g.P.Pages.faults c.args.pages.now) (g.P.Pages.faults c.take.new.self) (g.P.Pages.faults c.take.new.self)
     _ _ _ _ _ _ (omega arith) (omega arith)
     (λ at expected found broken tells free list. starts_sound (g.P.Pages.map c.args.pages.now) (g.P.Pages.count c.args.pages.now) free (broken tells) list)
-    (λ n space. (space.0, space.1, λ tells page free list. space.2 tells free page list)) (λ no. no) c.in_err-first.ensures.cause)
+    (λ n space. space) (λ no. no) c.in_err-first.ensures.cause)
 
 pub returns-clause-made : goal.returns-clause-made
 returns-clause-made g c = λ tells.
     made g.P.Pages c.args.pages.now c.put.new.self c.args.kind c.in_ok-first.first (g.P.Pages.map c.take.new.self) c.page.result.now
     (c.page.ensures.spelled ∙ ap (λ (s : Slots). spelling s) c.new-slots.ensures) (subst (λ (s : Slots). Fits s) c.new-slots.ensures c.page.ensures.fits)
-    (let below = c.in_ok-first.ensures.below in omega (arith, below, c.in_ok-put.ensures.count)) (c.in_ok-first.ensures.header tells) (c.in_ok-put.ensures.map tells)
+    (let below = c.in_ok-first.ensures.below in omega (arith, below, c.in_ok-put.ensures.count)) (let grows = c.in_ok-first.ensures.grows in omega (arith, grows, c.in_ok-put.ensures.count)) (c.in_ok-first.ensures.header tells) (c.in_ok-put.ensures.map tells)
     (takes_at (g.P.Pages.map c.args.pages.now) (g.P.Pages.map c.args.pages.now) (g.P.Pages.map c.take.new.self) (g.P.Pages.count c.args.pages.now) (g.P.Pages.count c.args.pages.now)
     (g.P.Pages.count c.take.new.self) (g.P.Pages.count c.put.new.self) c.in_ok-first.first refl refl (sym c.in_ok-put.ensures.count) (c.in_ok-first.ensures.taken tells))

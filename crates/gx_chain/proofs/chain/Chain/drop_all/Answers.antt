@@ -19,7 +19,7 @@ returns-in_err-slots-clause-cause g c =
     _ _ _ _ _ _ (let q = c.loop.invariant.quiet.faults in omega arith) (omega arith)
     (λ at expected found broken tells links free held.
     drops_sound g.P.Pages c.args.pages.now c.args.kind c.args.self links free held c.loop.pages c.loop.page c.loop.counter (c.loop.invariant.drops tells links free held)
-    c.if-page-eq0.false c.loop.invariant.count (λ below bytes is. broken below tells bytes is))
+    c.if-page-eq0.false c.loop.invariant.count (λ some below bytes is. broken some below tells bytes is))
     (λ n no. absurd no) (λ no. absurd no) c.in_err-slots.ensures.cause)
 
 pub loop-preserved : goal.loop-preserved
@@ -37,7 +37,13 @@ loop-preserved g c =
           (gives_at (g.P.Pages.map mid) (g.P.Pages.map c.loop.pages) (g.P.Pages.map c.give.new.self) (g.P.Pages.count mid) (g.P.Pages.count c.loop.pages) c.loop.page map count
           (c.in_ok-give.ensures.given tells));
       count = c.in_ok-give.ensures.count ∙ count ∙ c.loop.invariant.count;
-      heap = (let before = c.loop.invariant.heap in let here = c.in_ok-slots.ensures.heap in let give = c.in_ok-give.ensures.heap in omega (arith, before, here, give));
-      quiet = quiet_join g.P.Pages c.args.pages.now c.loop.pages c.give.new.self c.loop.invariant.quiet
-          (quiet_join g.P.Pages c.loop.pages mid c.give.new.self c.in_ok-slots.ensures.quiet c.in_ok-give.ensures.quiet);
+      ticks = (let before = c.loop.invariant.ticks in let here = c.in_ok-slots.ensures.heap in let give = c.in_ok-give.ensures.heap in let tick = c.tick.ensures in omega (arith, before, here, give, tick));
+      most = (let before = c.loop.invariant.most in let tick = c.tick.ensures in omega (arith, before, tick));
+      quiet = quiet_join g.P.Pages g.met.P.Pages.follows_on c.args.pages.now c.loop.pages c.give.new.self c.loop.invariant.quiet
+          (quiet_join g.P.Pages g.met.P.Pages.follows_on c.loop.pages mid c.give.new.self c.in_ok-slots.ensures.quiet c.in_ok-give.ensures.quiet);
     }
+
+pub returns-clause-dropped : goal.returns-clause-dropped
+returns-clause-dropped g c = λ tells links free held.
+    ended g.P.Pages c.args.pages.now c.args.kind c.args.self links free held c.loop.pages c.loop.page c.loop.counter (c.loop.invariant.drops tells links free held)
+    c.if-page-ne0.false c.loop.invariant.count

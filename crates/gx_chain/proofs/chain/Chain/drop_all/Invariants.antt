@@ -8,6 +8,7 @@ abbrev pub invariant-loop : goal.invariant-loop
 invariant-loop g l = record {
   drops : g.P.Pages.tells → (links : List Link) (free : List ℕ) → HoldsBeside g.P.Pages l.fn.pages l.kind l.fn.self links free → Drops g.P.Pages l.fn.pages l.pages l.kind links free l.page l.counter;
   count : g.P.Pages.count l.pages ≡ g.P.Pages.count l.fn.pages;
-  heap : g.P.Pages.heap_fetches l.pages ≤ g.P.Pages.heap_fetches l.fn.pages + l.counter;
+  ticks : g.P.Pages.heap_fetches l.pages + l.fn.steps ≤ g.P.Pages.heap_fetches l.fn.pages + l.steps;
+  most : l.steps ≡ l.fn.steps + l.counter;
   quiet : StaysQuiet g.P.Pages l.fn.pages l.pages;
 }

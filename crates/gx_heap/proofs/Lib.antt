@@ -1,0 +1,5 @@
+mod Entries
+mod Heaps
+mod Removes
+mod Rows
+mod Sweeps

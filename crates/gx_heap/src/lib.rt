@@ -1,0 +1,12 @@
+//! A heap: the rows of a table on pages, in a chain of slot pages.
+#![tactic(auto)]
+
+mod heap;
+mod item;
+mod laws;
+mod reading;
+mod removal;
+mod vacuum;
+
+pub use heap::Heap;
+pub use laws::{one_heap, whole_scan};
