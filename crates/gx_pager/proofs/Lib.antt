@@ -1,0 +1,15 @@
+mod Pieces
+mod Cached
+mod Headers
+mod Formatting
+mod Placing
+mod Records
+mod Causes
+mod Maps
+mod LayerMaps
+mod Results
+mod Moments
+mod Opening
+mod Adding
+mod Closing
+mod Ending

@@ -1,0 +1,10 @@
+pub mod Layers
+pub mod Maps
+pub mod Headers
+pub mod Cached
+pub mod Memory
+pub mod Known
+pub mod Left
+pub mod Openings
+pub mod Opened
+pub mod Placed

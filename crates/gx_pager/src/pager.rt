@@ -1,0 +1,340 @@
+//! A store over a host.
+
+ghost use Rattle.std.specs.Prelude.{◌≡◌, ◌≢◌, Err, ◌+◌, ◌-◌, ◌^◌, ◌≤◌, ◌==◌, ℕ, min, List, [], ◌∷◌, take, drop, slice_index, if◌then◌else◌, false, IfOk, OnOk, IsErr, Some};
+ghost use Rattle.std.specs.BTreeMap.{get};
+ghost use Rattle.std.specs.Ordering.{nat_cmp};
+ghost use Rattle.gx_bytes.specs.Fields.{le32, le64};
+ghost use Rattle.gx_words.specs.Causes.{Rose};
+ghost use Rattle.gx_words.specs.Image.{Image};
+ghost use Rattle.gx_log.specs.Records.{Record, Stands, HasMap, entries_in};
+ghost use Rattle.gx_pages.specs.Contents.{below, given};
+ghost use Rattle.gx_pages.specs.Databases.{header_of, catalog_page};
+ghost use Rattle.gx_pages.specs.Frees.{HasCount, HasFirst};
+ghost use Rattle.gx_pager.specs.Cached.{Agrees};
+ghost use Rattle.gx_pager.specs.Known.{IsSound};
+ghost use Rattle.gx_pager.specs.Layers.{shown, pieces};
+ghost use Rattle.gx_pager.specs.Opened.{IsRead};
+ghost use Rattle.gx_pager.specs.Openings.{OpenBroken};
+
+use crate::cache::Cache;
+use crate::checkpoint::close_log;
+use crate::commit::add_record;
+use crate::format::format;
+use crate::free_list::{give_page, take_page};
+use crate::header::{Header, fields_of};
+use crate::keeper::Keeper;
+use crate::layers::Layers;
+use crate::open::{Opened, read_file};
+use crate::reads::load;
+use gx_disk::Host;
+use gx_io::Failed;
+use gx_log::Log;
+use gx_pages::{Page, PageError, Pages, Store};
+use std::alloc::Global;
+
+/// The kind of a heap page.
+const HEAP: u8 = 2;
+
+/// The greatest front at which a record is added.
+const MOST: u64 = 1 << 62;
+
+/// A store over a host: the pages of its disk, and a log of what was committed since the last checkpoint. It holds what
+/// changed since then, and a cache; a store that is dropped in place of closed loses what its owner knows of the host.
+#[derive(Drop)]
+pub struct Pager<'h, H: Host> {
+    host: &'h mut H,
+    alloc: Global,
+    log: Log,
+    layers: Layers,
+    cache: Cache,
+    waiting: u64,
+    begun: bool,
+    spoiled: bool,
+    fetches: u64,
+    heap_fetches: u64,
+    pub ghost sound: { H.tells → spoiled ≡ false → ∥ IsSound H.Disk host.now log layers.header (λ n. shown (get nat_cmp layers.kept n)) ∥₁ },
+    pub ghost waits: { H.tells → spoiled ≡ false → (records : List Record) → Stands records (H.told host.now).log → waiting ≡ entries_in records },
+    pub ghost agrees: { H.tells → Agrees (pieces (H.told host.now)) cache.pages.entries },
+}
+
+// How many heap pages were fetched, after this page was.
+fn with_heap(count: u64, page: &Page) -> u64
+    ensures { result ≡ (if slice_index page.now 0 == 2 then min (count + 1) (2 ^ 64 - 1) else count) }
+{
+    if page.bytes()[0] == HEAP {
+        return count.saturating_add(1);
+    }
+    count
+}
+
+impl<'h, H: Host> Pager<'h, H> {
+    /// Makes an empty database of two pages, whatever the disk held.
+    pub fn format(host: &mut H) -> Result<(), Failed>
+        ensures empty { OnOk result (H.tells → (c : Image) → H.now_may_leave host.new c → HasMap c (below 2 (given (header_of 2 ∷ catalog_page ∷ [])))) }
+        ensures said { H.said host.new ≡ H.said host.old }
+        ensures faults { H.faults host.old ≤ H.faults host.new }
+        ensures failed { IsErr result → Rose (H.faults host.old) (H.faults host.new) }
+    {
+        format(host)
+    }
+
+    /// A store over a host that was read.
+    pub fn over(host: &'h mut H, opened: Opened) -> Pager<'h, H>
+        requires { IsRead H.Disk host.old opened }
+        ensures name { result.host.ghost_name ≡ host.entry.ghost_name }
+        ensures host { result.host.now ≡ host.old }
+
+        // Each image that a crash could leave has the committed map, and so has the disk as read.
+        ensures left { H.tells → (c : Image) → H.now_may_leave host.old c → HasMap c (⟦<Pager<'h, H> as Pages>⟧.committed result) }
+        ensures read { H.tells → HasMap (H.told host.old) (⟦<Pager<'h, H> as Pages>⟧.committed result) }
+        ensures map { ⟦<Pager<'h, H> as Pages>⟧.map result ≡ ⟦<Pager<'h, H> as Pages>⟧.committed result }
+        ensures count { ⟦<Pager<'h, H> as Pages>⟧.count result ≡ ⟦<Pager<'h, H> as Pages>⟧.committed_count result }
+        ensures fresh { (result.spoiled ≡ false) × (result.begun ≡ false) × (result.fetches ≡ 0) × (result.heap_fetches ≡ 0) }
+    {
+        let Opened {
+            alloc,
+            log,
+            layers,
+            cache,
+            waiting,
+        } = opened;
+        Pager {
+            host,
+            alloc,
+            log,
+            layers,
+            cache,
+            waiting,
+            begun: false,
+            spoiled: false,
+            fetches: 0,
+            heap_fetches: 0,
+        }
+    }
+
+    /// Opens a host: reads its log and page 0, and writes nothing. What an error leaves of a host that is needed
+    /// further, and that a failure of the disk rose its count, is said by `read_file`.
+    pub fn open(alloc: Global, host: &'h mut H) -> Result<Pager<'h, H>, PageError>
+        ensures broken { (at expected found : ℕ) → result ≡ Err (PageError.Broken at expected found) → (expected ≢ found) × (H.tells → OpenBroken (H.told host.old) at expected found) }
+        ensures space { (pages : ℕ) → result ≢ Err (PageError.PageSpace pages) }
+        ensures sound { OnOk result (H.tells → (at expected found : ℕ) → OpenBroken (H.told host.old) at expected found → ⊥) }
+        ensures name { IfOk result (λ pager. pager.host.ghost_name ≡ host.entry.ghost_name) }
+        ensures read { IfOk result (λ pager. H.tells → HasMap (H.told host.old) (⟦<Pager<'h, H> as Pages>⟧.committed pager)) }
+        ensures map { IfOk result (λ pager. ⟦<Pager<'h, H> as Pages>⟧.map pager ≡ ⟦<Pager<'h, H> as Pages>⟧.committed pager) }
+        ensures fresh { IfOk result (λ pager. (pager.spoiled ≡ false) × (pager.begun ≡ false) × (pager.fetches ≡ 0) × (pager.heap_fetches ≡ 0)) }
+    {
+        let opened = match read_file(alloc, host) {
+            Ok(opened) => opened,
+            Err(error) => return Err(error),
+        };
+        Ok(Pager::over(host, opened))
+    }
+
+    /// Gives the host back.
+    pub fn close(self) -> &'h mut H
+        ensures name { result.ghost_name ≡ self.entry.host.ghost_name }
+        ensures host { result.now ≡ self.entry.host.now }
+    {
+        let Pager {
+            host,
+            alloc: _,
+            log: _log,
+            layers: _layers,
+            cache: _cache,
+            waiting: _,
+            begun: _,
+            spoiled: _,
+            fetches: _,
+            heap_fetches: _,
+        } = self;
+        host
+    }
+
+    /// Page 0 of the map.
+    pub fn header(&self) -> Header
+        ensures count { result.count ≡ ⟦<Pager<'h, H> as Pages>⟧.count self.now }
+        ensures fields { (header : List ℕ) → ⟦<Pager<'h, H> as Pages>⟧.map self.now 0 ≡ Some header
+            → (take 4 (drop 4 header) ≡ le32 result.format) × HasCount header result.count × HasFirst header result.free × (take 8 (drop 24 header) ≡ le64 result.catalog) }
+    {
+        fields_of(self.layers.header_page())
+    }
+}
+
+impl<'h, H: Host> Pages for Pager<'h, H> {
+    ghost use Rattle.gx_words.specs.Image.{Image};
+    ghost use Rattle.gx_pager.specs.Left.{MapLeft, MapSince, Follows, committed_left, counted_zero, counted_committed, follows_same, follows_join};
+    ghost use Rattle.gx_pager.specs.Layers.{pieces};
+    ghost use Rattle.gx_pager.specs.Memory.{committed_memory, overlay, unit, now_map, committed_map};
+    ghost use Rattle.std.proofs.Common.{refl, ◌∙◌};
+
+    ghost tells = { H.tells };
+
+    ghost map = { λ p. now_map p.layers (H.told p.host.now) };
+
+    ghost count = { λ p. p.layers.count };
+
+    ghost faults = { λ p. H.faults p.host.now };
+
+    ghost fetches = { λ p. p.fetches };
+
+    ghost heap_fetches = { λ p. p.heap_fetches };
+
+    ghost said = { λ p. H.said p.host.now };
+
+    ghost committed = { λ p. committed_map p.layers (H.told p.host.now) };
+
+    ghost spoiled = { λ p. p.spoiled };
+
+    ghost begun = { λ p. p.begun };
+
+    ghost committed_count = { λ p. p.layers.committed_count };
+
+    ghost moment = { λ p. H.moment p.host.now };
+
+    ghost may_leave = { λ p. MapLeft H.Disk p.host.now };
+
+    ghost may_have_left_since = { λ p. MapSince H.Disk p.host.now };
+
+    ghost follows = { λ a b. (b.host.ghost_name ≡ a.host.ghost_name) × Follows H.Disk a.host.now b.host.now };
+
+    ghost follows_itself = { λ p. (refl, follows_same {g = H.Disk.own} p.host.now) };
+
+    ghost follows_on = { λ a b c x y. (y.0 ∙ x.0, follows_join {g = H.Disk.own} H.counts_now H.only_now a.host.now b.host.now c.host.now x.1 y.1) };
+
+    ghost counted = { λ p told. counted_zero (unit p.layers 0) p.layers.header (pieces (H.told p.host.now) 0) p.layers.count p.layers.count p.layers.counted };
+
+    ghost bounded = { λ p. p.layers.bounded };
+
+    ghost committed_counted = { λ p told. counted_committed p.layers.header (pieces (H.told p.host.now) 0) p.layers.committed_count p.layers.committed_count p.layers.committed_counted };
+
+    ghost committed_bounded = { λ p. p.layers.committed_bounded };
+
+    ghost committed_may_stay = { λ p told sound. committed_left p.host.now p.log p.layers.header (overlay p.layers) p.layers.committed_count told (H.told_may_stay p.host.now told) p.layers.committed_counted p.layers.committed_bounded (p.sound told sound) };
+
+    ghost counts_now = { λ p t m le left. (left.0, (left.1.0, H.counts_now p.host.now t left.1.0 le left.1.1, left.1.2)) };
+
+    ghost only_now = { λ p m left. let now = H.only_now p.host.now (record { image = left.1.0; bytes = m.bytes }) left.1.1 in ((left.0, (left.1.0, now.0, left.1.2)), now.1) };
+
+    fn fetch(&mut self, page: u64, into: &mut Page) -> Result<(), PageError> {
+        self.fetches = self.fetches.saturating_add(1);
+        if page >= self.layers.count {
+            return Err(PageError::Broken {
+                page,
+                expected: self.layers.count - 1,
+                found: page,
+            });
+        }
+        match load(
+            self.alloc,
+            &self.layers,
+            &mut self.cache,
+            self.host,
+            page,
+            into,
+        ) {
+            Ok(()) => (),
+            Err(error) => return Err(error),
+        }
+        self.heap_fetches = with_heap(self.heap_fetches, into);
+        Ok(())
+    }
+
+    fn put(&mut self, page: u64, from: &Page) -> Result<(), PageError> {
+        if page >= self.layers.count {
+            return Err(PageError::Broken {
+                page,
+                expected: self.layers.count - 1,
+                found: page,
+            });
+        }
+        match self.layers.write(self.alloc, page, from) {
+            Ok(()) => (),
+            Err(_) => return Err(PageError::Memory),
+        }
+        Ok(())
+    }
+
+    fn take(&mut self) -> Result<u64, PageError> {
+        take_page(self.alloc, &mut self.layers, &mut self.cache, self.host)
+    }
+
+    fn give(&mut self, page: u64) -> Result<(), PageError> {
+        give_page(self.alloc, &mut self.layers, page)
+    }
+}
+
+impl<'h, H: Host> Store for Pager<'h, H> {
+    ghost use Rattle.std.specs.Prelude.{nat_le};
+
+    ghost reserved = { λ p. nat_le p.log (2 ^ 62) };
+
+    fn begin(&mut self) {
+        self.begun = true;
+    }
+
+    fn reserve(&mut self) -> Result<(), PageError> {
+        if self.log.front() <= MOST {
+            return Ok(());
+        }
+        match self.checkpoint() {
+            Ok(()) => Ok(()),
+            Err(_) => Err(PageError::DiskFault),
+        }
+    }
+
+    fn commit(&mut self) -> Result<(), PageError> {
+        if self.log.front() > MOST {
+            return Err(PageError::Memory);
+        }
+        let more = self.layers.unit.len() as u64;
+        self.spoiled = true;
+        match add_record(&mut self.log, self.host, &self.layers) {
+            Ok(()) => (),
+            Err(_) => return Err(PageError::DiskFault),
+        }
+        self.layers.settle();
+        self.waiting = self.waiting.saturating_add(more);
+        self.begun = false;
+        self.spoiled = false;
+        Ok(())
+    }
+
+    fn abandon(&mut self) {
+        self.layers.abandon();
+        self.begun = false;
+    }
+}
+
+impl<'h, H: Host> Keeper for Pager<'h, H> {
+    ghost use Rattle.gx_log.specs.Records.{Stands};
+
+    ghost pending = { λ p. p.waiting };
+
+    ghost counted_records = { λ p records. Stands records (H.told p.host.now).log };
+
+    fn waiting(&self) -> u64 {
+        self.waiting
+    }
+
+    fn checkpoint(&mut self) -> Result<(), Failed> {
+        self.cache.clear();
+        self.spoiled = true;
+        match close_log(
+            &mut self.log,
+            self.host,
+            self.layers.committed_count,
+            &self.layers.kept,
+        ) {
+            Ok(()) => (),
+            Err(_) => return Err(Failed),
+        }
+        self.layers.forget();
+        self.waiting = 0;
+        self.spoiled = false;
+        Ok(())
+    }
+
+    fn answer(&mut self, bytes: &[u8]) -> Result<(), Failed> {
+        self.host.answer(bytes)
+    }
+}

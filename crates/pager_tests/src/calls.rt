@@ -1,0 +1,110 @@
+//! Each call once: what is fetched, what waits, what is answered, and which calls of the disk are made.
+
+ghost use Rattle.std.specs.Prelude.{◌≡◌, false, OnOk};
+
+use gx_disk::MemoryHost;
+use gx_pager::{Header, Keeper, Pager};
+use gx_pages::{Page, PageError, Pages, Store};
+use std::test::Fail;
+
+// Takes a page, if it is asked to, puts page 2, and commits.
+fn take_and_put<S: Store>(store: &mut S, take: bool) -> Result<(), PageError>
+    requires { S.spoiled store.old ≡ false }
+    ensures { OnOk result (S.spoiled store.new ≡ false) }
+{
+    store.begin();
+    if take {
+        let _ = store.take()?;
+    }
+    store.put(2, &Page::zero())?;
+    match store.reserve() {
+        Ok(()) => (),
+        Err(error) => return Err(error),
+    }
+    match store.commit() {
+        Ok(()) => Ok(()),
+        Err(error) => Err(error),
+    }
+}
+
+#[test]
+fn waiting_pages(rt: HostRuntime) -> Result<(), Fail> {
+    let alloc = rt.alloc();
+    let mut host = MemoryHost::new(alloc, &[], &[], &[], &[])?;
+    Pager::format(&mut host)?;
+    let mut pager = Pager::open(alloc, &mut host)?;
+    let empty = Header {
+        format: 2,
+        count: 2,
+        free: 0,
+        catalog: 1,
+    };
+    assert_eq!(rt; pager.header(), empty);
+    assert_eq!(rt; pager.waiting(), 0);
+    // Page 0 and the page that was taken, then that page alone, then both and another one that was taken.
+    take_and_put(&mut pager, true)?;
+    assert_eq!(rt; pager.waiting(), 2);
+    take_and_put(&mut pager, false)?;
+    assert_eq!(rt; pager.waiting(), 3);
+    take_and_put(&mut pager, true)?;
+    assert_eq!(rt; pager.waiting(), 6);
+    let _ = pager.close();
+    let mut again = Pager::open(alloc, &mut host)?;
+    assert_eq!(rt; again.waiting(), 6);
+    again.checkpoint()?;
+    assert_eq!(rt; again.waiting(), 0);
+    let _ = again.close();
+    let mut last = Pager::open(alloc, &mut host)?;
+    assert_eq!(rt; last.waiting(), 0);
+    assert_eq!(rt; last.header().count, 4);
+    let _ = last.close();
+    Ok(())
+}
+
+// Commits a unit without changes.
+fn commit_nothing<S: Store>(store: &mut S) -> Result<(), PageError>
+    requires { S.spoiled store.old ≡ false }
+{
+    store.begin();
+    match store.reserve() {
+        Ok(()) => (),
+        Err(error) => return Err(error),
+    }
+    store.commit()
+}
+
+#[test]
+fn calls_of_the_disk(rt: HostRuntime) -> Result<(), Fail> {
+    let alloc = rt.alloc();
+    let mut host = MemoryHost::new(alloc, &[], &[], &[], &[])?;
+    Pager::format(&mut host)?;
+    let start = host.calls();
+    let opened = Pager::open(alloc, &mut host)?;
+    let _ = opened.close();
+    let opening = host.calls().saturating_sub(start);
+    // A commit of nothing and a second fetch of a page make no call.
+    let mut pager = Pager::open(alloc, &mut host)?;
+    commit_nothing(&mut pager)?;
+    let mut into = Page::zero();
+    for _ in 0..3 {
+        pager.fetch(1, &mut into)?;
+        pager.fetch(0, &mut into)?;
+    }
+    let _ = pager.close();
+    let two = opening.saturating_add(opening);
+    assert_eq!(rt; host.calls().saturating_sub(start), two.saturating_add(1));
+    Ok(())
+}
+
+#[test]
+fn answers(rt: HostRuntime) -> Result<(), Fail> {
+    let alloc = rt.alloc();
+    let mut host = MemoryHost::new(alloc, &[], &[], &[], &[2])?;
+    Pager::format(&mut host)?;
+    let mut pager = Pager::open(alloc, &mut host)?;
+    pager.answer(b"INIT\n")?;
+    assert!(rt; pager.answer(b"again").is_err());
+    let _ = pager.close();
+    assert!(rt; host.answered().starts_with(b"INIT\n"));
+    Ok(())
+}
