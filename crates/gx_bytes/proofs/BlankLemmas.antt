@@ -1,16 +1,16 @@
 -- What `core_of` gives, and that a text is cut at a byte in one way.
-use Rattle.std.proofs.Common.{◌≡◌, ℕ, ◌+◌, ◌-◌, ◌<◌, ◌≤◌, Bool, true, false, List, [], ◌∷◌, ◌++◌, ◌≢◌, All, reverse, length, get_or, take, drop, refl, sym, ◌∙◌, ap, subst, arith, append-nil, take-append-drop, length-take, length-drop, get_or-take, get_or-drop}
+use Rattle.std.proofs.Common.{◌≡◌, ℕ, ◌+◌, ◌-◌, ◌<◌, ◌≤◌, suc, Bool, true, false, List, [], ◌∷◌, ◌++◌, ◌≢◌, All, length, get_or, take, drop, refl, sym, ◌∙◌, ap, subst, arith, append-nil, take-append-drop, length-take, length-drop, get_or-take, get_or-drop}
 use Rattle.std.specs.Char.{is_ascii_whitespace}
 use Rattle.std.specs.Str.{IsTrimAscii}
 use Rattle.std.proofs.lemmas.List.Elements.{All-nil, All-cons, All-head, All-tail, All-from_get_or}
-use Rattle.std.proofs.lemmas.List.{get_or-reverse, length-reverse, reverse-reverse, reverse-append}
-use Rattle.gx_bytes.specs.Blanks.{without_leading_blank, core_of, IsBare, IsBlank, Trims}
+use Rattle.gx_bytes.specs.Blanks.{without_leading_blank, kept_before, without_trailing_blank, core_of, IsBare, IsBlank, Trims}
 
 -- the first byte of the text is no white space
 abbrev BeginsBare : List ℕ → Type 0
 BeginsBare text = is_ascii_whitespace (get_or text 0 0) ≡ false
 
-skips_blank : (before rest : List ℕ) → IsBlank before → without_leading_blank (before ++ rest) ≡ without_leading_blank rest
+-- white space in front is dropped
+pub skips_blank : (before rest : List ℕ) → IsBlank before → without_leading_blank (before ++ rest) ≡ without_leading_blank rest
 skips_blank [] rest blank = refl
 skips_blank (c ∷ cs) rest blank =
     let head : is_ascii_whitespace c ≡ true = All-head (λ c. is_ascii_whitespace c ≡ true) c cs blank in
@@ -20,38 +20,32 @@ keeps_bare : (text : List ℕ) → BeginsBare text → without_leading_blank tex
 keeps_bare [] bare = refl
 keeps_bare (c ∷ cs) bare = let head : is_ascii_whitespace c ≡ false = bare in rw head refl
 
-blank_reversed : (text : List ℕ) → IsBlank text → IsBlank (reverse text)
-blank_reversed text blank k d h =
-    let len = length-reverse text in
-    let lt : k < length text = omega arith in
-    rw get_or-reverse (blank (length text - 1 - k) d (omega arith))
+-- white space alone leaves nothing
+trailing_blank : (after : List ℕ) → IsBlank after → without_trailing_blank after ≡ []
+trailing_blank [] blank = refl
+trailing_blank (c ∷ cs) blank =
+    let head : is_ascii_whitespace c ≡ true = All-head (λ c. is_ascii_whitespace c ≡ true) c cs blank in
+    ap (kept_before c) (trailing_blank cs (All-tail (λ c. is_ascii_whitespace c ≡ true) c cs blank)) ∙ rw head refl
 
--- the last byte of a text is the first of the text reversed
-first_reversed : (text : List ℕ) → get_or (reverse text) 0 0 ≡ get_or text (length text - 1) 0
-first_reversed [] = refl
-first_reversed (c ∷ cs) =
-    let lt : 0 < length (c ∷ cs) = omega arith in
-    get_or-reverse (c ∷ cs) 0 0 lt ∙ ap (λ k. get_or (c ∷ cs) k 0) (omega arith)
+drops_blank : (core after : List ℕ) → IsBlank after → without_trailing_blank (core ++ after) ≡ without_trailing_blank core
+drops_blank [] after blank = trailing_blank after blank
+drops_blank (c ∷ cs) after blank = ap (kept_before c) (drops_blank cs after blank)
 
-first_joined : (core after : List ℕ) (c : ℕ) (cs : List ℕ) → core ≡ c ∷ cs → get_or (core ++ after) 0 0 ≡ get_or core 0 0
-first_joined core after c cs e = rw e refl
+keeps_end : (core : List ℕ) → is_ascii_whitespace (get_or core (length core - 1) 0) ≡ false → without_trailing_blank core ≡ core
+keeps_end [] bare = refl
+keeps_end (c ∷ []) bare = let head : is_ascii_whitespace c ≡ false = bare in rw head refl
+keeps_end (c ∷ d ∷ ds) bare =
+    let place : length (c ∷ d ∷ ds) - 1 ≡ suc (length (d ∷ ds) - 1) = omega arith in
+    let P : ℕ → Type 0 = λ k. is_ascii_whitespace (get_or (c ∷ d ∷ ds) k 0) ≡ false in
+    ap (kept_before c) (keeps_end (d ∷ ds) (subst P place bare))
 
 -- a bare core with white space behind it loses that white space
-core_before : (core after : List ℕ) → IsBare core → IsBlank after → reverse (without_leading_blank (reverse (core ++ after))) ≡ core
-core_before core after bare blank =
-    let skipped : without_leading_blank (reverse after ++ reverse core) ≡ reverse core =
-    skips_blank (reverse after) (reverse core) (blank_reversed after blank)
-    ∙ keeps_bare (reverse core) (rw first_reversed bare.last) in
-    ap (λ t. reverse (without_leading_blank t)) (reverse-append core after) ∙ ap reverse skipped ∙ reverse-reverse core
-
--- and that before it
-core_joined : (core after : List ℕ) → IsBare core → IsBlank after → reverse (without_leading_blank (reverse (without_leading_blank (core ++ after)))) ≡ core
+core_joined : (core after : List ℕ) → IsBare core → IsBlank after → without_trailing_blank (without_leading_blank (core ++ after)) ≡ core
 core_joined [] after bare blank =
     let none : without_leading_blank after ≡ [] = ap without_leading_blank (sym (append-nil after)) ∙ skips_blank after [] blank in
     rw none refl
 core_joined (c ∷ cs) after bare blank =
-    let kept : without_leading_blank ((c ∷ cs) ++ after) ≡ (c ∷ cs) ++ after = keeps_bare ((c ∷ cs) ++ after) bare.first in
-    ap (λ t. reverse (without_leading_blank (reverse t))) kept ∙ core_before (c ∷ cs) after bare blank
+    ap without_trailing_blank (keeps_bare ((c ∷ cs) ++ after) bare.first) ∙ drops_blank (c ∷ cs) after blank ∙ keeps_end (c ∷ cs) bare.last
 
 -- a text has no other core
 pub core_is : (text core : List ℕ) → Trims text core → core_of text ≡ core
@@ -59,7 +53,7 @@ unfolding core_of
 core_is text core t =
     let skipped : without_leading_blank text ≡ without_leading_blank (core ++ t.after) =
     ap without_leading_blank t.parts ∙ skips_blank t.before (core ++ t.after) t.blank_before in
-    ap (λ s. reverse (without_leading_blank (reverse s))) skipped ∙ core_joined core t.after t.bare t.blank_after
+    ap without_trailing_blank skipped ∙ core_joined core t.after t.bare t.blank_after
 
 -- a text that neither begins nor ends with white space is its own core
 pub core_bare : (text : List ℕ) → IsBare text → core_of text ≡ text
@@ -98,6 +92,45 @@ front_of : (text : List ℕ) → Front text
 front_of [] = record { before = []; parts = refl; blank = All-nil _; bare = refl }
 front_of (c ∷ cs) = front_more c cs (is_ascii_whitespace c) refl (front_of cs)
 
+-- what is kept of a text, and the white space behind it
+record Back (text : List ℕ) : Type 0 where
+  after : List ℕ
+  parts : text ≡ without_trailing_blank text ++ after
+  blank : IsBlank after
+  last : is_ascii_whitespace (get_or (without_trailing_blank text) (length (without_trailing_blank text) - 1) 0) ≡ false
+
+back_first : (c : ℕ) (cs : List ℕ) (b : Bool) → is_ascii_whitespace c ≡ b → without_trailing_blank cs ≡ [] → Back cs → Back (c ∷ cs)
+back_first c cs true e none back = record {
+  after = c ∷ back.after;
+  parts = rw none (rw e (ap (λ t. c ∷ t) (back.parts ∙ ap (λ t. t ++ back.after) none)));
+  blank = All-cons (λ c. is_ascii_whitespace c ≡ true) c back.after e back.blank;
+  last = rw none (rw e refl);
+}
+back_first c cs false e none back = record {
+  after = back.after;
+  parts = rw none (rw e (ap (λ t. c ∷ t) (back.parts ∙ ap (λ t. t ++ back.after) none)));
+  blank = back.blank;
+  last = rw none (rw e e);
+}
+
+back_more : (c : ℕ) (cs core : List ℕ) → without_trailing_blank cs ≡ core → Back cs → Back (c ∷ cs)
+back_more c cs [] e back = back_first c cs (is_ascii_whitespace c) refl e back
+back_more c cs (d ∷ ds) e back =
+    let kept : without_trailing_blank (c ∷ cs) ≡ c ∷ d ∷ ds = ap (kept_before c) e in
+    let place : suc (length (d ∷ ds) - 1) ≡ length (c ∷ d ∷ ds) - 1 = omega arith in
+    let P : ℕ → Type 0 = λ k. is_ascii_whitespace (get_or (c ∷ d ∷ ds) k 0) ≡ false in
+    let Q : List ℕ → Type 0 = λ t. is_ascii_whitespace (get_or t (length t - 1) 0) ≡ false in
+    record {
+      after = back.after;
+      parts = ap (λ t. c ∷ t) (back.parts ∙ ap (λ t. t ++ back.after) e) ∙ ap (λ t. t ++ back.after) (sym kept);
+      blank = back.blank;
+      last = subst Q (sym kept) (subst P place (subst Q e back.last));
+    }
+
+back_of : (text : List ℕ) → Back text
+back_of [] = record { after = []; parts = refl; blank = All-nil _; last = refl }
+back_of (c ∷ cs) = back_more c cs (without_trailing_blank cs) refl (back_of cs)
+
 begins_bare : (core after : List ℕ) → BeginsBare (core ++ after) → BeginsBare core
 begins_bare [] after bare = refl
 begins_bare (c ∷ cs) after bare = bare
@@ -106,21 +139,17 @@ begins_bare (c ∷ cs) after bare = bare
 pub core_trims : (text : List ℕ) → Trims text (core_of text)
 unfolding core_of
 core_trims text =
-    let rest = without_leading_blank text in
     let front = front_of text in
-    let back = front_of (reverse rest) in
-    let core = reverse (without_leading_blank (reverse rest)) in
-    let joined : rest ≡ core ++ reverse back.before =
-    sym (reverse-reverse rest) ∙ ap reverse back.parts ∙ reverse-append back.before (without_leading_blank (reverse rest)) in
+    let back = back_of (without_leading_blank text) in
     record {
       before = front.before;
-      after = reverse back.before;
-      parts = front.parts ∙ ap (λ (t : List ℕ). front.before ++ t) joined;
+      after = back.after;
+      parts = front.parts ∙ ap (λ (t : List ℕ). front.before ++ t) back.parts;
       blank_before = front.blank;
-      blank_after = blank_reversed back.before back.blank;
+      blank_after = back.blank;
       bare = record {
-        first = begins_bare core (reverse back.before) (subst BeginsBare joined front.bare);
-        last = rw (← first_reversed core) (rw reverse-reverse back.bare);
+        first = begins_bare (core_of text) back.after (subst BeginsBare back.parts front.bare);
+        last = back.last;
       };
     }
 

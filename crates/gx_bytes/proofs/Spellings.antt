@@ -1,8 +1,10 @@
 -- What follows from the spelling of a varint and of a field.
-use Rattle.std.proofs.Common.{◌≡◌, ℕ, zero, suc, ◌+◌, ◌*◌, ◌<◌, ◌≤◌, ◌^◌, List, [], ◌∷◌, ◌++◌, length, take, drop, min, inl, inr, ◌⊎◌, take-append-drop, refl, sym, ◌∙◌, ap, subst, arith, rules, length-append, append_assoc, length-take}
+use Rattle.std.proofs.Common.{◌≡◌, ℕ, zero, suc, ◌+◌, ◌*◌, ◌/◌, ◌%◌, ◌<◌, ◌≤◌, ◌^◌, true, false, cond, List, [], ◌∷◌, ◌++◌, length, take, drop, min, inl, inr, ◌⊎◌, take-append-drop, refl, sym, ◌∙◌, ap, ap₂, subst, arith, rules, length-append, append_assoc, length-take}
 use Rattle.std.proofs.lemmas.List.{take-take, take_min, take_at, append_cancel_left, same_lists, places}
-use Rattle.std.proofs.Common.{Option, None, Some, IfNone}
-use Rattle.gx_bytes.specs.Varints.{IsVarint, IsField}
+use Rattle.std.proofs.Common.{Option, None, Some, IfSome, IfNone, MatchOption}
+use Rattle.std.specs.Prelude.{nat_lt}
+use Rattle.std.proofs.lemmas.Bool.Decides.{nat_tests}
+use Rattle.gx_bytes.specs.Varints.{IsVarint, AppendsVarint, IsField, groups, varint_bytes, field_bytes}
 
 -- one byte more in front
 pub varint_cons : (b n high : ℕ) (bytes : List ℕ) → 128 ≤ b → b < 256 → 0 < high → n + 128 ≡ b + 128 * high → IsVarint bytes high → IsVarint (b ∷ bytes) n
@@ -114,3 +116,81 @@ fronts_same bytes j k m n left right =
 pub none_weaker : {T P Q : Type 0} (o : Option T) → (P → Q) → IfNone o P → IfNone o Q
 none_weaker None weaker p = weaker p
 none_weaker (Some x) weaker p = p
+
+pub one_varint : (a b : List ℕ) (n : ℕ) → IsVarint a n → IsVarint b n → a ≡ b
+one_varint [] b n v w = absurd v
+one_varint (c ∷ a) [] n v w = absurd w
+one_varint (c ∷ []) (d ∷ []) n v w = ap (λ (x : ℕ). x ∷ []) (sym v.1 ∙ w.1)
+one_varint (c ∷ []) (d ∷ e ∷ b) n v w = absurd (omega (arith, v.0, v.1, w.0, w.3, w.4))
+one_varint (c ∷ e ∷ a) (d ∷ []) n v w = absurd (omega (arith, w.0, w.1, v.0, v.3, v.4))
+one_varint (c ∷ e ∷ a) (d ∷ f ∷ b) n v w =
+    let heads : c ≡ d = omega (arith, v.0, v.1, v.4, w.0, w.1, w.4) in
+    let highs : v.2 ≡ w.2 = omega (arith, v.4, w.4, heads) in
+    let P : ℕ → Type 0 = λ h. IsVarint (e ∷ a) h in
+    ap₂ (λ (x : ℕ) (xs : List ℕ). x ∷ xs) heads (one_varint (e ∷ a) (f ∷ b) w.2 (subst P highs v.5) w.5)
+
+pub one_field : (a b part : List ℕ) → IsField a part → IsField b part → a ≡ b
+one_field a b part f g = f.2 ∙ ap (λ (l : List ℕ). l ++ part) (one_varint f.0 g.0 (length part) f.1 g.1) ∙ sym g.2
+
+groups_are : (k n : ℕ) → n ≤ k → IsVarint (groups k n) n
+groups_are zero n small = (omega arith, refl)
+groups_are (suc k) n small =
+    elim (nat_lt n 128) as (λ b. nat_lt n 128 ≡ b → IsVarint (cond b (n ∷ []) ((128 + n % 128) ∷ groups k (n / 128))) n) [
+      | true ↦ λ e. (grind (arith, nat_tests), refl)
+      | false ↦ λ e.
+          let large : 128 ≤ n = grind (arith, nat_tests) in
+          varint_cons (128 + n % 128) n (n / 128) (groups k (n / 128)) (omega arith) (omega arith) (omega arith) (omega arith) (groups_are k (n / 128) (omega arith))
+    ] refl
+
+pub varint_is : (n : ℕ) → IsVarint (varint_bytes n) n
+unfolding varint_bytes
+varint_is n = groups_are n n (omega arith)
+
+pub varint_only : (bytes : List ℕ) (n : ℕ) → IsVarint bytes n → bytes ≡ varint_bytes n
+varint_only bytes n spelled = one_varint bytes (varint_bytes n) n spelled (varint_is n)
+
+pub field_is : (part : List ℕ) → IsField (field_bytes part) part
+unfolding field_bytes
+field_is part = (varint_bytes (length part), varint_is (length part), refl)
+
+pub field_only : (bytes part : List ℕ) → IsField bytes part → bytes ≡ field_bytes part
+field_only bytes part spelled = one_field bytes (field_bytes part) part spelled (field_is part)
+
+-- a front that is a spelling, where the bytes begin with the spelling of n, is that one
+front_again : (bytes rest : List ℕ) (n m len : ℕ) → bytes ≡ varint_bytes n ++ rest → len ≤ length bytes → IsVarint (take len bytes) m → (m ≡ n) × (len ≡ length (varint_bytes n))
+front_again bytes rest n m len is within spelled =
+    let same = varints_same (take len bytes) (varint_bytes n) (drop len bytes) rest m n spelled (varint_is n) (take-append-drop len bytes ∙ is) in
+    (same.1, omega (arith, ap length same.0, length-take len bytes, within))
+
+-- what is read of the first ten bytes is the number that the bytes begin with
+pub number_again : (bytes rest : List ℕ) (n m : ℕ) (read : Option (ℕ × ℕ)) → n < 2 ^ 64 → m ≡ min (length bytes) 10 → bytes ≡ varint_bytes n ++ rest
+    → IfSome read (λ found. found.1 ≤ length (take m bytes)) → IfSome read (λ found. IsVarint (take found.1 (take m bytes)) found.0) → IfNone read ((k len : ℕ) → k < 2 ^ 64 → IsVarint (take len (take m bytes)) k → ⊥)
+    → MatchOption read ⊥ (λ found. (found.0 ≡ n) × (found.1 ≡ length (varint_bytes n)))
+number_again bytes rest n m None fits least is within found none =
+    let whole : take (length (varint_bytes n)) bytes ≡ varint_bytes n = ap (λ (l : List ℕ). take (length (varint_bytes n)) l) is ∙ take_at (varint_bytes n) rest (length (varint_bytes n)) refl in
+    let at = varint_front bytes n (length (varint_bytes n)) m fits least (subst (λ (l : List ℕ). IsVarint l n) (sym whole) (varint_is n)) in
+    none n at.0 fits at.1
+number_again bytes rest n m (Some (k, len)) fits least is within found none =
+    let size = length-take m bytes in
+    let short : len ≤ m = omega (arith, within, size, least) in
+    let same : take len (take m bytes) ≡ take len bytes = take-take len m bytes short in
+    front_again bytes rest n k len is (omega (arith, short, least)) (subst (λ (l : List ℕ). IsVarint l k) same found)
+
+-- bytes that begin with the field of a part begin with a field
+pub field_there : (bytes part rest : List ℕ) → bytes ≡ field_bytes part ++ rest → ((p : List ℕ) (len : ℕ) → IsField (take len bytes) p → ⊥) → ⊥
+field_there bytes part rest is none =
+    let whole : take (length (field_bytes part)) bytes ≡ field_bytes part = ap (λ (l : List ℕ). take (length (field_bytes part)) l) is ∙ take_at (field_bytes part) rest (length (field_bytes part)) refl in
+    none part (length (field_bytes part)) (subst (λ (l : List ℕ). IsField l part) (sym whole) (field_is part))
+
+pub part_again : (bytes part rest found : List ℕ) (len : ℕ) → bytes ≡ field_bytes part ++ rest → len ≤ length bytes → IsField (take len bytes) found → (found ≡ part) × (len ≡ length (field_bytes part))
+part_again bytes part rest found len is within spelled =
+    let same = fields_same (take len bytes) (field_bytes part) (drop len bytes) rest found part spelled (field_is part) (take-append-drop len bytes ∙ is) in
+    (same.1, omega (arith, ap length same.0, length-take len bytes, within))
+
+-- what was appended is the spelling
+pub appends_varint : (old new : List ℕ) (n : ℕ) → AppendsVarint old new n → new ≡ old ++ varint_bytes n
+appends_varint old new n a = a.2 ∙ ap (λ (l : List ℕ). old ++ l) (varint_only a.0 n a.1)
+
+pub after_count : (old counted new part : List ℕ) → counted ≡ old ++ varint_bytes (length part) → new ≡ counted ++ part → new ≡ old ++ field_bytes part
+unfolding field_bytes
+after_count old counted new part count is = is ∙ ap (λ (l : List ℕ). l ++ part) count ∙ append_assoc old (varint_bytes (length part)) part

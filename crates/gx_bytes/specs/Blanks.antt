@@ -1,5 +1,5 @@
 -- White space round a text, and texts cut at a byte.
-use Rattle.std.specs.Prelude.{◌≡◌, ℕ, ◌-◌, false, true, List, [], ◌∷◌, ◌++◌, ◌≢◌, All, reverse, length, slice_index, if◌then◌else◌}
+use Rattle.std.specs.Prelude.{◌≡◌, ℕ, ◌-◌, false, true, List, [], ◌∷◌, ◌++◌, ◌≢◌, All, length, slice_index, if◌then◌else◌}
 use Rattle.std.specs.Char.{is_ascii_whitespace}
 
 -- the text from its first byte on that isn't white space: space, tab, line feed, form feed, carriage return
@@ -8,9 +8,19 @@ without_leading_blank [] = []
 without_leading_blank (c ∷ cs) =
     if is_ascii_whitespace c then without_leading_blank cs else c ∷ cs
 
+-- a byte with what is kept of the text behind it: white space before nothing is dropped
+abbrev pub kept_before : ℕ → List ℕ → List ℕ
+kept_before c [] = if is_ascii_whitespace c then [] else c ∷ []
+kept_before c (d ∷ ds) = c ∷ d ∷ ds
+
+-- the text up to its last byte that isn't white space
+abbrev pub without_trailing_blank : List ℕ → List ℕ
+without_trailing_blank [] = []
+without_trailing_blank (c ∷ cs) = kept_before c (without_trailing_blank cs)
+
 -- the text without the white space at its ends
 unfoldable pub core_of : List ℕ → List ℕ
-core_of text = reverse (without_leading_blank (reverse (without_leading_blank text)))
+core_of text = without_trailing_blank (without_leading_blank text)
 
 -- neither the first nor the last byte is white space
 pub record IsBare (text : List ℕ) : Type 0 where

@@ -37,6 +37,13 @@ impl Bytes {
         })
     }
 
+    /// The same bytes once more.
+    pub fn copy(&self, alloc: Global) -> Result<Bytes, NoMemory>
+        ensures { IfOk result (λ made. made ≡ self.now) }
+    {
+        Bytes::from_slice(alloc, self.as_slice())
+    }
+
     pub fn as_slice(&self) -> &[u8]
         ensures { result.now ≡ self.now }
     {

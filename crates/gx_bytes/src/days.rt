@@ -1,6 +1,6 @@
 //! Days as text, by the calendar of `jiff`.
 
-ghost use Rattle.std.specs.Prelude.{◌≡◌, ℕ, ◌<◌, ◌≤◌, ◌++◌, MatchOption, MatchResult, OnOk, OnErr, ℤ, length};
+ghost use Rattle.std.specs.Prelude.{◌≡◌, ℕ, List, ◌<◌, ◌≤◌, ◌++◌, MatchOption, MatchResult, OnOk, OnErr, ℤ, length};
 ghost use Rattle.gx_bytes.specs.Days.{IsField, IsDateForm, IsInCalendar, IsDay, SpellsDay, AnswersDay, OneDayAnswer, IsDateDay, printed_day};
 
 use crate::{Bytes, NoMemory, ValueError, is_numeral, numeral_value, trimmed};
@@ -30,6 +30,13 @@ pub fn day_of(text: &[u8]) -> Result<i32, ValueError>
 /// A text has one answer of [`read_day`].
 pub fn one_day_answer()
     ensures { OneDayAnswer }
+{}
+
+/// The days of the years 1 to 9999 are those that the calendar has, and each that a text spells is one.
+pub fn days_of_years()
+    ensures are { (y m d : ℕ) (n : ℤ) → IsDay y m d n → IsDateDay n }
+    ensures only { (n : ℤ) → IsDateDay n → (y : ℕ) × (m : ℕ) × (d : ℕ) × IsDay y m d n × (y ≤ 9999) }
+    ensures spelled { (text : List ℕ) (n : ℤ) → SpellsDay text n → IsDateDay n }
 {}
 
 /// Appends the day as `2023-02-28`. The day is one of the years 1 to 9999.
@@ -96,53 +103,5 @@ fn day_number(year: u16, month: u8, day: u8) -> Result<i32, ValueError>
     match Date::new(year as i16, month as i8, day as i8) {
         Ok(date) => Ok(date.to_plain().to_unix_epoch_day()),
         Err(_) => Err(ValueError::OutOfRange),
-    }
-}
-
-#[cfg(test)]
-mod tests {
-    use super::*;
-    use std::test::Fail;
-
-    #[test]
-    fn reads_days(rt: HostRuntime) {
-        let cases = [
-            ("1970-01-01", Ok(0)),
-            ("1969-12-31", Ok(-1)),
-            (" 2000-01-01\n", Ok(10957)),
-            ("2000-02-29", Ok(11016)),
-            ("0001-01-01", Ok(-719162)),
-            ("9999-12-31", Ok(2932896)),
-            ("0000-01-01", Err(ValueError::OutOfRange)),
-            ("2023-02-29", Err(ValueError::OutOfRange)),
-            ("1900-02-29", Err(ValueError::OutOfRange)),
-            ("2023-02-30", Err(ValueError::OutOfRange)),
-            ("2023-13-01", Err(ValueError::OutOfRange)),
-            ("2023-00-10", Err(ValueError::OutOfRange)),
-            ("2023-01-00", Err(ValueError::OutOfRange)),
-            ("2023-02-30x", Err(ValueError::NoValue)),
-            ("20230230", Err(ValueError::NoValue)),
-            ("10000-01-01", Err(ValueError::NoValue)),
-            ("2023-1-01", Err(ValueError::NoValue)),
-            ("2023/01/01", Err(ValueError::NoValue)),
-            ("", Err(ValueError::NoValue)),
-        ];
-        for (text, want) in cases {
-            assert_eq!(rt; read_day(text), want, "at {text:?}");
-        }
-    }
-
-    #[test]
-    fn prints_days(rt: HostRuntime) -> Result<(), Fail> {
-        let mut to = Bytes::new(rt.alloc());
-        for day in [0, -1, 11016, -719162, 2932896] {
-            print_day(day, &mut to)?;
-            to.push(b' ')?;
-        }
-        assert_eq!(rt;
-            to.as_slice(),
-            b"1970-01-01 1969-12-31 2000-02-29 0001-01-01 9999-12-31 ".as_slice()
-        );
-        Ok(())
     }
 }

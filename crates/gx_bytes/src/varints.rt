@@ -1,7 +1,7 @@
 //! Unsigned LEB128 numbers in their shortest spelling, and fields of a length and so many bytes.
 
-ghost use Rattle.std.specs.Prelude.{◌≡◌, ℕ, ◌+◌, ◌<◌, ◌≤◌, ◌^◌, List, ◌++◌, length, take, IfSome, IfNone, OnOk, OnErr};
-ghost use Rattle.gx_bytes.specs.Varints.{IsVarint, AppendsVarint, IsField, AppendsField, Extends};
+ghost use Rattle.std.specs.Prelude.{◌≡◌, ℕ, ◌+◌, ◌<◌, ◌≤◌, ◌^◌, List, ◌++◌, length, take, IfSome, IfNone, MatchOption, OnOk, OnErr};
+ghost use Rattle.gx_bytes.specs.Varints.{IsVarint, varint_bytes, AppendsVarint, IsField, field_bytes, AppendsField, Extends};
 
 use crate::{Bytes, NoMemory};
 
@@ -15,6 +15,7 @@ pub fn varint(bytes: &[u8]) -> Option<(u64, usize)>
     ensures fits { IfSome result (λ found. found.0 < 2 ^ 64) }
     ensures found { IfSome result (λ found. IsVarint (take found.1 bytes.now) found.0) }
     ensures none { IfNone result ((n len : ℕ) → n < 2 ^ 64 → IsVarint (take len bytes.now) n → ⊥) }
+    ensures again { (n : ℕ) (rest : List ℕ) → n < 2 ^ 64 → bytes.now ≡ varint_bytes n ++ rest → MatchOption result ⊥ (λ found. (found.0 ≡ n) × (found.1 ≡ length (varint_bytes n))) }
 {
     varint_within(&bytes[..bytes.len().min(LONGEST)])
 }
@@ -22,6 +23,7 @@ pub fn varint(bytes: &[u8]) -> Option<(u64, usize)>
 /// Adds the number at the end. Without memory the bytes stay as they were.
 pub fn push_varint(to: &mut Bytes, value: u64) -> Result<(), NoMemory>
     ensures ok { OnOk result (AppendsVarint to.old to.new value) }
+    ensures written { OnOk result (to.new ≡ to.old ++ varint_bytes value) }
     ensures err { OnErr result (to.new ≡ to.old) }
 {
     let len = to.len();
@@ -38,6 +40,7 @@ pub fn field(bytes: &[u8]) -> Option<(&[u8], usize)>
     ensures length { IfSome result (λ found. found.1 ≤ length bytes.now) }
     ensures found { IfSome result (λ found. IsField (take found.1 bytes.now) found.0.now) }
     ensures none { IfNone result ((part : List ℕ) (len : ℕ) → IsField (take len bytes.now) part → ⊥) }
+    ensures again { (part rest : List ℕ) → bytes.now ≡ field_bytes part ++ rest → MatchOption result ⊥ (λ found. (found.0.now ≡ part) × (found.1 ≡ length (field_bytes part))) }
 {
     let (len, count) = varint(bytes)?;
     let (_, rest) = bytes.split_at(count);
@@ -51,6 +54,7 @@ pub fn field(bytes: &[u8]) -> Option<(&[u8], usize)>
 /// Adds a field of this part at the end. Without memory the bytes stay as they were.
 pub fn push_field(to: &mut Bytes, part: &[u8]) -> Result<(), NoMemory>
     ensures ok { OnOk result (AppendsField to.old to.new part.now) }
+    ensures written { OnOk result (to.new ≡ to.old ++ field_bytes part.now) }
     ensures err { OnErr result (to.new ≡ to.old) }
 {
     let before = to.len();
@@ -62,8 +66,13 @@ pub fn push_field(to: &mut Bytes, part: &[u8]) -> Result<(), NoMemory>
     Ok(())
 }
 
-/// No spelling begins another one: so a number or a field that was pushed is the one that is read, whatever follows.
+/// Each number and each part has one spelling, and no spelling begins another one: so what was pushed is what is read,
+/// whatever follows.
 pub fn one_spelling()
+    ensures number { (n : ℕ) → IsVarint (varint_bytes n) n }
+    ensures number_only { (bytes : List ℕ) (n : ℕ) → IsVarint bytes n → bytes ≡ varint_bytes n }
+    ensures part { (part : List ℕ) → IsField (field_bytes part) part }
+    ensures part_only { (bytes part : List ℕ) → IsField bytes part → bytes ≡ field_bytes part }
     ensures varints { (a b x y : List ℕ) (m n : ℕ) → IsVarint a m → IsVarint b n → a ++ x ≡ b ++ y → (a ≡ b) × (m ≡ n) × (x ≡ y) }
     ensures fields { (a b x y p q : List ℕ) → IsField a p → IsField b q → a ++ x ≡ b ++ y → (a ≡ b) × (p ≡ q) × (x ≡ y) }
 {}

@@ -1,3 +1,6 @@
-mod SequenceLemmas
-mod UnaryLemmas
-pub mod Totals
+pub mod MachineLemmas
+pub mod TokenLemmas
+pub mod AnswerLemmas
+pub mod StepLemmas
+pub mod ReadLemmas
+pub mod TruthLemmas

@@ -1,3 +1,4 @@
-pub mod Tree
+pub mod Formula
+pub mod Tokens
 pub mod Grammar
-pub mod Reading
+pub mod Machine

@@ -1,13 +1,11 @@
-//! Formulas of words joined by `!`, `&`, `|` and parentheses, from their tokens.
+//! Formulas of words joined by `!`, `&`, `|` and parentheses, over any kind of word.
 #![tactic(auto)]
 
 mod formula;
 mod parser;
-mod token;
+mod read;
+mod sign;
 
 pub use formula::Formula;
-pub use parser::{one_formula, parse};
-pub use token::Token;
-
-#[cfg(test)]
-mod tests;
+pub use read::read_formula;
+pub use sign::Sign;

@@ -1,158 +1,313 @@
-//! The parser.
+//! The reader's machine: what stands open, and what each token makes of it.
 
-ghost use Rattle.std.specs.Prelude.{◌≡◌, ◌≢◌, Bool, List, ◌∷◌, [], Ok, Err, Result, option_map, IfSome, IfNone, MatchResult};
-ghost use Rattle.gx_bytes.specs.declared.error.ValueError.{ValueError};
-ghost use Rattle.gx_formula.specs.declared.token.Token.{Token};
-ghost use Rattle.gx_formula.specs.Tree.{Tree, tree_of};
-ghost use Rattle.gx_formula.specs.Grammar.{operator, AnswersFormula};
-ghost use Rattle.gx_formula.specs.Reading.{ReadsUnary, FailsUnary, ReadsAll, FailsAll, finish, sum_after, product_after};
+ghost use Rattle.std.specs.Prelude.{◌≡◌, ◌≤◌, ℕ, length, IfOk, MatchResult, Some, None, option_map};
+ghost use Rattle.gx_formula.specs.Tokens.{Word, Mark};
+ghost use Rattle.gx_formula.specs.Machine.{with_product, with_sum, negated, unnegated, put_operand, value, frames, parsed, IsLimited, IsStep, FailsSign, FailsWord, FailsEnd};
 
 use crate::formula::Formula;
-use crate::token::{Token, take, take_word};
-use gx_bytes::ValueError;
+use crate::sign::Sign;
+use gx_bytes::{NoMemory, ValueError};
 use std::alloc::Global;
 
 /// How many parentheses and `!` may stand open.
-const MOST_OPEN: u8 = 64;
+const MOST_OPEN: usize = 64;
 
-/// The formula that all the tokens spell. TooDeep where, behind tokens that can begin a formula, a 65th
-/// parenthesis or `!` stands open, or an operator too many comes; NoValue for all other tokens.
-pub fn parse(alloc: Global, tokens: &[Token]) -> Result<Formula, ValueError>
-    ensures { MatchResult result (λ f. AnswersFormula tokens.now (Ok (tree_of f))) (λ e. AnswersFormula tokens.now (Err e)) }
-{
-    let (formula, rest) = sequence(alloc, tokens, MOST_OPEN)?;
-    if !rest.is_empty() {
-        return Err(ValueError::NoValue);
-    }
-    Ok(formula)
+/// How many `&` and `|` a formula may have.
+const MOST_OPERATORS: u16 = 1024;
+
+/// What stands open.
+#[derive(Debug, Drop)]
+pub(crate) enum Pending<F> {
+    Not,
+    /// A parenthesis, with the conjunctions joined and the operands of the last conjunction before it.
+    Group(Option<F>, Option<F>),
 }
 
-#[cycle(parser)]
-fn unary(alloc: Global, tokens: &[Token], allowed: u8) -> Result<(Formula, &[Token]), ValueError>
-    ensures { MatchResult result (λ x. ReadsUnary allowed tokens.now (tree_of x.0) x.1.now) (λ e. FailsUnary allowed tokens.now e) }
+/// What was read of a formula: what stands open, the last at the end; of the group that is open the conjunctions joined, and the operands
+/// of the last of them; the operand that has ended, if none is wanted; and how many operators there were.
+#[derive(Drop)]
+pub(crate) struct Parser<F> {
+    pub stack: Vec<Pending<F>>,
+    pub sum: Option<F>,
+    pub product: Option<F>,
+    pub operand: Option<F>,
+    pub operators: u16,
+}
+
+/// The state behind a sign.
+pub(crate) fn put_sign<F: Formula>(
+    alloc: Global,
+    parser: Parser<F>,
+    sign: Sign,
+) -> Result<Parser<F>, ValueError>
+    requires { IsLimited parser }
+    ensures { MatchResult result (λ next. IsStep F.tree parser (Mark sign) next) (λ e. FailsSign (parsed F.tree parser) parser.operators sign e) }
 {
-    if let Some((word, rest)) = take_word(tokens) {
-        return Ok((Formula::Word(word), rest));
+    match sign {
+        Sign::Not => put_not(parser),
+        Sign::And => put_and(alloc, parser),
+        Sign::Or => put_or(alloc, parser),
+        Sign::Open => put_open(parser),
+        Sign::Close => put_close(alloc, parser),
     }
-    if let Some(rest) = take(tokens, Token::Not) {
-        return negation(alloc, tokens, rest, allowed);
+}
+
+/// The state behind a word at the front of the text, and what stands behind the word.
+pub(crate) fn put_word<F: Formula>(
+    alloc: Global,
+    parser: Parser<F>,
+    core: &[u8],
+) -> Result<(Parser<F>, &[u8]), ValueError>
+    requires { IsLimited parser }
+    ensures { MatchResult result (λ x. (w : F.Word) × F.Takes core.now w x.1.now × IsStep F.tree parser (Word w) x.0) (λ e. FailsWord F.Takes F.IsFar core.now (parsed F.tree parser) e) }
+{
+    if parser.operand.is_some() {
+        return Err(ValueError::NoValue);
     }
-    let Some(rest) = take(tokens, Token::Open) else {
+    let (word, rest) = F::take_word(alloc, core)?;
+    let Ok(next) = behind(
+        alloc,
+        parser.stack,
+        parser.sum,
+        parser.product,
+        F::word(word),
+        parser.operators,
+    ) else {
+        return Err(ValueError::Memory);
+    };
+    Ok((next, rest))
+}
+
+/// The formula at the end of the text.
+pub(crate) fn finished<F: Formula>(alloc: Global, parser: Parser<F>) -> Result<F, ValueError>
+    ensures { MatchResult result (λ f. value (parsed F.tree parser) ≡ Some (F.tree f)) (λ e. FailsEnd (parsed F.tree parser) e) }
+{
+    let Parser {
+        stack,
+        sum,
+        product,
+        operand,
+        operators: _,
+    } = parser;
+    let Some(operand) = operand else {
         return Err(ValueError::NoValue);
     };
-    group(alloc, tokens, rest, allowed)
+    if !stack.is_empty() {
+        return Err(ValueError::NoValue);
+    }
+    match group_value(alloc, sum, product, operand) {
+        Ok(formula) => Ok(formula),
+        Err(_) => Err(ValueError::Memory),
+    }
 }
 
-#[cycle(parser)]
-fn negation<'a>(
-    alloc: Global,
-    tokens: &'a [Token],
-    rest: &'a [Token],
-    allowed: u8,
-) -> Result<(Formula, &'a [Token]), ValueError>
-    requires { tokens.now ≡ Token.Not ∷ rest.now }
-    ensures { MatchResult result (λ x. ReadsUnary allowed tokens.entry.now (tree_of x.0) x.1.now) (λ e. FailsUnary allowed tokens.entry.now e) }
+fn put_not<F: Formula>(parser: Parser<F>) -> Result<Parser<F>, ValueError>
+    requires { IsLimited parser }
+    ensures { MatchResult result (λ next. IsStep F.tree parser (Mark Sign.Not) next) (λ e. FailsSign (parsed F.tree parser) parser.operators Sign.Not e) }
 {
-    if allowed == 0 {
+    let Parser {
+        mut stack,
+        sum,
+        product,
+        operand,
+        operators,
+    } = parser;
+    if operand.is_some() {
+        return Err(ValueError::NoValue);
+    }
+    if stack.len() >= MOST_OPEN {
         return Err(ValueError::TooDeep);
     }
-    let (inner, after) = unary(alloc, rest, allowed - 1)?;
-    let Ok(boxed) = Box::new(alloc, inner) else {
+    if stack.push(Pending::Not).is_err() {
         return Err(ValueError::Memory);
-    };
-    Ok((Formula::Not(boxed), after))
+    }
+    Ok(Parser {
+        stack,
+        sum,
+        product,
+        operand: None,
+        operators,
+    })
 }
 
-#[cycle(parser)]
-fn group<'a>(
-    alloc: Global,
-    tokens: &'a [Token],
-    rest: &'a [Token],
-    allowed: u8,
-) -> Result<(Formula, &'a [Token]), ValueError>
-    requires { tokens.now ≡ Token.Open ∷ rest.now }
-    ensures { MatchResult result (λ x. ReadsUnary allowed tokens.entry.now (tree_of x.0) x.1.now) (λ e. FailsUnary allowed tokens.entry.now e) }
+fn put_open<F: Formula>(parser: Parser<F>) -> Result<Parser<F>, ValueError>
+    requires { IsLimited parser }
+    ensures { MatchResult result (λ next. IsStep F.tree parser (Mark Sign.Open) next) (λ e. FailsSign (parsed F.tree parser) parser.operators Sign.Open e) }
 {
-    if allowed == 0 {
+    let Parser {
+        mut stack,
+        sum,
+        product,
+        operand,
+        operators,
+    } = parser;
+    if operand.is_some() {
+        return Err(ValueError::NoValue);
+    }
+    if stack.len() >= MOST_OPEN {
         return Err(ValueError::TooDeep);
     }
-    let (inner, after) = sequence(alloc, rest, allowed - 1)?;
-    let Some(after) = take(after, Token::Close) else {
+    if stack.push(Pending::Group(sum, product)).is_err() {
+        return Err(ValueError::Memory);
+    }
+    Ok(Parser {
+        stack,
+        sum: None,
+        product: None,
+        operand: None,
+        operators,
+    })
+}
+
+fn put_and<F: Formula>(alloc: Global, parser: Parser<F>) -> Result<Parser<F>, ValueError>
+    requires { IsLimited parser }
+    ensures { MatchResult result (λ next. IsStep F.tree parser (Mark Sign.And) next) (λ e. FailsSign (parsed F.tree parser) parser.operators Sign.And e) }
+{
+    let Parser {
+        stack,
+        sum,
+        product,
+        operand,
+        operators,
+    } = parser;
+    let Some(operand) = operand else {
         return Err(ValueError::NoValue);
     };
-    Ok((inner, after))
+    if operators >= MOST_OPERATORS {
+        return Err(ValueError::TooDeep);
+    }
+    let Ok(product) = product_with(alloc, product, operand) else {
+        return Err(ValueError::Memory);
+    };
+    Ok(Parser {
+        stack,
+        sum,
+        product: Some(product),
+        operand: None,
+        operators: operators + 1,
+    })
 }
 
-#[cycle(parser)]
-fn sequence(alloc: Global, tokens: &[Token], allowed: u8) -> Result<(Formula, &[Token]), ValueError>
-    ensures { MatchResult result (λ x. ReadsAll allowed tokens.now (tree_of x.0) x.1.now) (λ e. FailsAll allowed tokens.now e) }
+fn put_or<F: Formula>(alloc: Global, parser: Parser<F>) -> Result<Parser<F>, ValueError>
+    requires { IsLimited parser }
+    ensures { MatchResult result (λ next. IsStep F.tree parser (Mark Sign.Or) next) (λ e. FailsSign (parsed F.tree parser) parser.operators Sign.Or e) }
 {
-    let (first, after) = unary(alloc, tokens, allowed)?;
-    let mut sum = None;
-    let mut product = first;
-    let mut rest = after;
-    while let Some((or, next)) = take_operator(rest) {
-        let (operand, after) = unary(alloc, next, allowed)?;
-        (sum, product) = joined(alloc, sum, product, or, operand)?;
-        rest = after;
+    let Parser {
+        stack,
+        sum,
+        product,
+        operand,
+        operators,
+    } = parser;
+    let Some(operand) = operand else {
+        return Err(ValueError::NoValue);
+    };
+    if operators >= MOST_OPERATORS {
+        return Err(ValueError::TooDeep);
     }
-    match take(rest, Token::TooMany) {
-        Some(_) => Err(ValueError::TooDeep),
-        None => Ok((finished(alloc, sum, product)?, rest)),
-    }
+    let Ok(sum) = group_value(alloc, sum, product, operand) else {
+        return Err(ValueError::Memory);
+    };
+    Ok(Parser {
+        stack,
+        sum: Some(sum),
+        product: None,
+        operand: None,
+        operators: operators + 1,
+    })
 }
 
-/// Whether the operator in front is `|`, and what stands behind it.
-fn take_operator(tokens: &[Token]) -> Option<(bool, &[Token])>
-    ensures some { IfSome result (λ x. tokens.now ≡ operator x.0 ∷ x.1.now) }
-    ensures none { IfNone result ((or : Bool) (rest : List Token) → tokens.now ≢ operator or ∷ rest) }
+fn put_close<F: Formula>(alloc: Global, parser: Parser<F>) -> Result<Parser<F>, ValueError>
+    requires { IsLimited parser }
+    ensures { MatchResult result (λ next. IsStep F.tree parser (Mark Sign.Close) next) (λ e. FailsSign (parsed F.tree parser) parser.operators Sign.Close e) }
 {
-    match tokens {
-        [Token::Or, rest @ ..] => Some((true, rest)),
-        [Token::And, rest @ ..] => Some((false, rest)),
-        _ => None,
+    let Parser {
+        mut stack,
+        sum,
+        product,
+        operand,
+        operators,
+    } = parser;
+    let Some(operand) = operand else {
+        return Err(ValueError::NoValue);
+    };
+    let Some(Pending::Group(before, first)) = stack.pop() else {
+        return Err(ValueError::NoValue);
+    };
+    let Ok(inner) = group_value(alloc, sum, product, operand) else {
+        return Err(ValueError::Memory);
+    };
+    match behind(alloc, stack, before, first, inner, operators) {
+        Ok(next) => Ok(next),
+        Err(_) => Err(ValueError::Memory),
     }
 }
 
-/// The conjunctions before, and the one that is still open, with one more operand.
-fn joined(
+/// The state behind an operand, which ends each `!` before it.
+fn behind<F: Formula>(
     alloc: Global,
-    sum: Option<Formula>,
-    product: Formula,
-    or: bool,
-    operand: Formula,
-) -> Result<(Option<Formula>, Formula), ValueError>
-    ensures { MatchResult result (λ x. (option_map tree_of x.0 ≡ sum_after or (option_map tree_of sum) (tree_of product)) × (tree_of x.1 ≡ product_after or (tree_of product) (tree_of operand))) (λ e. e ≡ ValueError.Memory) }
+    stack: Vec<Pending<F>>,
+    sum: Option<F>,
+    product: Option<F>,
+    operand: F,
+    operators: u16,
+) -> Result<Parser<F>, NoMemory>
+    ensures state { IfOk result (λ p. parsed F.tree p ≡ put_operand (frames F.tree stack.items) (option_map F.tree sum) (option_map F.tree product) (F.tree operand)) }
+    ensures operators { IfOk result (λ p. p.operators ≡ operators) }
+    ensures depth { IfOk result (λ p. length p.stack.items ≤ length stack.items) }
 {
-    if or {
-        return Ok((Some(finished(alloc, sum, product)?), operand));
+    let mut stack = stack;
+    let operand = ended(alloc, &mut stack, operand)?;
+    Ok(Parser {
+        stack,
+        sum,
+        product,
+        operand: Some(operand),
+        operators,
+    })
+}
+
+/// Takes each `!` at the end of the stack to the operand.
+fn ended<F: Formula>(alloc: Global, stack: &mut Vec<Pending<F>>, operand: F) -> Result<F, NoMemory>
+    ensures value { IfOk result (λ f. F.tree f ≡ negated (frames F.tree stack.old.items) (F.tree operand)) }
+    ensures stack { IfOk result (λ _. frames F.tree stack.new.items ≡ unnegated (frames F.tree stack.old.items)) }
+    ensures depth { IfOk result (λ _. length stack.new.items ≤ length stack.old.items) }
+{
+    let mut inner = operand;
+    'signs: loop {
+        match stack.pop() {
+            Some(Pending::Not) => inner = F::not(alloc, inner)?,
+            Some(Pending::Group(sum, product)) => {
+                stack.push(Pending::Group(sum, product))?;
+                return Ok(inner);
+            }
+            None => return Ok(inner),
+        }
     }
-    let Ok(left) = Box::new(alloc, product) else {
-        return Err(ValueError::Memory);
-    };
-    let Ok(right) = Box::new(alloc, operand) else {
-        return Err(ValueError::Memory);
-    };
-    Ok((sum, Formula::And(left, right)))
 }
 
-/// All conjunctions joined.
-fn finished(alloc: Global, sum: Option<Formula>, product: Formula) -> Result<Formula, ValueError>
-    ensures { MatchResult result (λ f. tree_of f ≡ finish (option_map tree_of sum) (tree_of product ∷ [])) (λ e. e ≡ ValueError.Memory) }
+/// The operands of a conjunction and one more.
+fn product_with<F: Formula>(alloc: Global, product: Option<F>, operand: F) -> Result<F, NoMemory>
+    ensures { IfOk result (λ f. F.tree f ≡ with_product (option_map F.tree product) (F.tree operand)) }
 {
-    let Some(sum) = sum else {
-        return Ok(product);
-    };
-    let Ok(left) = Box::new(alloc, sum) else {
-        return Err(ValueError::Memory);
-    };
-    let Ok(right) = Box::new(alloc, product) else {
-        return Err(ValueError::Memory);
-    };
-    Ok(Formula::Or(left, right))
+    match product {
+        Some(left) => F::and(alloc, left, operand),
+        None => Ok(operand),
+    }
 }
 
-/// Tokens have one answer, unless memory is wanting.
-pub fn one_formula()
-    ensures { (tokens : List Token) (r s : Result Tree ValueError) → r ≢ Err ValueError.Memory → s ≢ Err ValueError.Memory → AnswersFormula tokens r → AnswersFormula tokens s → r ≡ s }
-{}
+/// All that stands in a group.
+fn group_value<F: Formula>(
+    alloc: Global,
+    sum: Option<F>,
+    product: Option<F>,
+    operand: F,
+) -> Result<F, NoMemory>
+    ensures { IfOk result (λ f. F.tree f ≡ with_sum (option_map F.tree sum) (with_product (option_map F.tree product) (F.tree operand))) }
+{
+    let last = product_with(alloc, product, operand)?;
+    match sum {
+        Some(left) => F::or(alloc, left, last),
+        None => Ok(last),
+    }
+}

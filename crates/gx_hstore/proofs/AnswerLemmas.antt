@@ -1,5 +1,5 @@
 -- What each answer of the reader says, and that the keys and values of a text are text.
-use Rattle.std.proofs.Common.{◌≡◌, ◌≢◌, ℕ, zero, suc, ◌+◌, ◌<◌, Bool, true, false, cond, not, ◌&&◌, inl, inr, List, [], ◌∷◌, ◌++◌, map, length, length-append, get_or, take, drop, Option, None, Some, IfSome, Result, Ok, Err, All, IsUtf8, bytes_eq, codes, refl, sym, ap, ap₂, ◌∙◌, subst, arith, append_assoc, append-nil, add-one, IsAscii, lit<}
+use Rattle.std.proofs.Common.{◌≡◌, ℕ, zero, suc, ◌+◌, ◌<◌, Bool, true, false, cond, not, ◌&&◌, inl, inr, List, [], ◌∷◌, ◌++◌, map, length, length-append, get_or, take, drop, Option, None, Some, IfSome, All, IsUtf8, bytes_eq, codes, refl, sym, ap, ap₂, ◌∙◌, subst, arith, append_assoc, append-nil, add-one, IsAscii, lit<}
 use Rattle.std.specs.List.{AllByRecursion}
 use Rattle.std.specs.Char.{is_ascii_whitespace, to_ascii_lowercase}
 use Rattle.std.proofs.lemmas.Bool.Decides.{nat_tests}
@@ -8,8 +8,7 @@ use Rattle.std.proofs.lemmas.Option.{slice_get-get_or}
 use Rattle.std.proofs.lemmas.Slice.Eq.{bytes_eq-Decides}
 use Rattle.std.proofs.lemmas.Str.{IsUtf8-nil, IsUtf8-append, IsUtf8-take, IsUtf8-drop, IsUtf8-from_ascii, IsCharBoundary-before_ascii, IsCharBoundary-after_ascii}
 use Rattle.gx_bytes.specs.Blanks.{without_leading_blank}
-use Rattle.gx_bytes.specs.declared.error.ValueError.{ValueError}
-use Rattle.gx_bytes.specs.declared.error.ValueError.TheVariants.{NoValue, OutOfRange, TooDeep, Memory}
+use Rattle.gx_bytes.proofs.SingleAnswers.{IsSingle}
 use Rattle.gx_hstore.specs.Map.{Pair, IsMapOf, IsTextPair, IsHstore, find}
 use Rattle.gx_hstore.specs.Text.{Sign, Plain, Escaped, written, meant, ends, Stops, TakesSigns, TakesString, value_of, TakesPair, SpellsPairs, SpellsHstore, AnswersHstore}
 use Rattle.gx_hstore.proofs.OrderLemmas.{bytes_equiv}
@@ -25,17 +24,16 @@ blank_only text pairs spelled none some hstore s =
     empty [] e = refl
     empty (x ∷ xs) e = absurd (omega arith)
 
-pub same_answer : (text : List ℕ) (r s : Result (List Pair) ValueError) → r ≢ Err Memory → s ≢ Err Memory → AnswersHstore text r → AnswersHstore text s → r ≡ s
-same_answer text (Ok a) (Ok b) m n p q = ap Ok (one_map text a b p q)
-same_answer text (Ok a) (Err NoValue) m n p q = absurd (q a p)
-same_answer text (Err NoValue) (Ok b) m n p q = absurd (p b q)
-same_answer text (Err NoValue) (Err NoValue) m n p q = refl
-same_answer text (Err OutOfRange) s m n p q = absurd p
-same_answer text (Err TooDeep) s m n p q = absurd p
-same_answer text (Err Memory) s m n p q = absurd (m refl)
-same_answer text r (Err OutOfRange) m n p q = absurd q
-same_answer text r (Err TooDeep) m n p q = absurd q
-same_answer text r (Err Memory) m n p q = absurd (n refl)
+pub single_answer : (text : List ℕ) → IsSingle (AnswersHstore text)
+single_answer text = record {
+  one = one_map text;
+  no_value = λ v p q. q v p;
+  out_of_range = λ v p q. q;
+  too_deep = λ v p q. q;
+  none_or_out = λ p q. q;
+  none_or_deep = λ p q. q;
+  out_or_deep = λ p q. q;
+}
 
 -- ---- a text that is cut at bytes of ASCII
 

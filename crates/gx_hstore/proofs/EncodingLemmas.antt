@@ -2,7 +2,7 @@
 use Rattle.std.proofs.Common.{◌≡◌, ◌≢◌, ℕ, ◌+◌, ◌<◌, List, [], ◌∷◌, ◌++◌, length, length-append, get_or, take, drop, take-append-drop, Option, None, Some, refl, sym, ap, ap₂, ◌∙◌, subst, arith, append_assoc, append-nil}
 use Rattle.std.proofs.lemmas.List.{take_at, take_more}
 use Rattle.gx_bytes.specs.Varints.{IsVarint, IsField, AppendsField}
-use Rattle.gx_bytes.proofs.Spellings.{fields_same}
+use Rattle.gx_bytes.proofs.Spellings.{fields_same, one_field as same_field}
 use Rattle.gx_hstore.specs.Map.{Pair, IsHstore}
 use Rattle.gx_hstore.specs.Encoding.{IsValue, TakesEntry, IsEncoded, AppendsEncoded}
 use Rattle.gx_hstore.specs.Steps.{TakesField, TakesValue, AppendsEntry}
@@ -139,31 +139,16 @@ not_valid bytes pairs e none hstore v f = none (subst IsHstore (one_map_encoded 
 
 -- ---- one list of bytes to a map
 
-one_varint : (a b : List ℕ) (n : ℕ) → IsVarint a n → IsVarint b n → a ≡ b
-one_varint [] b n v w = absurd v
-one_varint (c ∷ a) [] n v w = absurd w
-one_varint (c ∷ []) (d ∷ []) n v w = ap (λ (x : ℕ). x ∷ []) (sym v.1 ∙ w.1)
-one_varint (c ∷ []) (d ∷ e ∷ b) n v w = absurd (omega (arith, v.0, v.1, w.0, w.3, w.4))
-one_varint (c ∷ e ∷ a) (d ∷ []) n v w = absurd (omega (arith, w.0, w.1, v.0, v.3, v.4))
-one_varint (c ∷ e ∷ a) (d ∷ f ∷ b) n v w =
-    let heads : c ≡ d = omega (arith, v.0, v.1, v.4, w.0, w.1, w.4) in
-    let highs : v.2 ≡ w.2 = omega (arith, v.4, w.4, heads) in
-    let P : ℕ → Type 0 = λ h. IsVarint (e ∷ a) h in
-    ap₂ (λ (x : ℕ) (xs : List ℕ). x ∷ xs) heads (one_varint (e ∷ a) (f ∷ b) w.2 (subst P highs v.5) w.5)
-
-field_bytes : (a b part : List ℕ) → IsField a part → IsField b part → a ≡ b
-field_bytes a b part f g = f.2 ∙ ap (λ (l : List ℕ). l ++ part) (one_varint f.0 g.0 (length part) f.1 g.1) ∙ sym g.2
-
 value_bytes : (a b : List ℕ) (value : Option (List ℕ)) → IsValue a value → IsValue b value → a ≡ b
 value_bytes a b None v w = v ∙ sym w
-value_bytes a b (Some value) v w = v.2 ∙ ap (λ (l : List ℕ). 1 ∷ l) (field_bytes v.0 w.0 value v.1 w.1) ∙ sym w.2
+value_bytes a b (Some value) v w = v.2 ∙ ap (λ (l : List ℕ). 1 ∷ l) (same_field v.0 w.0 value v.1 w.1) ∙ sym w.2
 
 pub one_bytes : (a b : List ℕ) (hstore : List Pair) → IsEncoded a hstore → IsEncoded b hstore → a ≡ b
 one_bytes a b [] e f = e ∙ sym f
 one_bytes a b (p ∷ pairs) e f =
     let t = e.1 in
     let u = f.1 in
-    t.parts ∙ ap₂ (λ (x y : List ℕ). x ++ y) (field_bytes t.key u.key p.0 t.key_is u.key_is) (ap₂ (λ (x y : List ℕ). x ++ y) (value_bytes t.value u.value p.1 t.value_is u.value_is) (one_bytes e.0 f.0 pairs e.2 f.2)) ∙ sym u.parts
+    t.parts ∙ ap₂ (λ (x y : List ℕ). x ++ y) (same_field t.key u.key p.0 t.key_is u.key_is) (ap₂ (λ (x y : List ℕ). x ++ y) (value_bytes t.value u.value p.1 t.value_is u.value_is) (one_bytes e.0 f.0 pairs e.2 f.2)) ∙ sym u.parts
 
 -- ---- steps of the encoder
 

@@ -7,3 +7,4 @@ pub mod PartLemmas
 pub mod AnswerLemmas
 pub mod PrintLemmas
 pub mod EncodingLemmas
+pub mod DecisionLemmas

@@ -18,7 +18,8 @@ use Rattle.std.proofs.lemmas.Map.Entries.{length-keys_of, lookup_from_place, loo
 use Rattle.std.proofs.lemmas.Option.{slice_get-get_or, get_or_from_slice_get}
 use Rattle.std.proofs.lemmas.Slice.Eq.{bytes_eq-Decides}
 use Rattle.std.proofs.lemmas.Map.Keys.{sorted_head, sorted_tail, IsDistinct-from_sorted, Less-from_sorted, sorted_from_all_adjacent}
-use Rattle.gx_hstore.specs.Map.{Pair, key_order, IsMap, find, ContainsMap}
+use Rattle.gx_hstore.specs.Map.{Pair, key_order, IsMap, find}
+use Rattle.gx_hstore.specs.Operators.{ContainsMap}
 use Rattle.gx_hstore.proofs.OrderLemmas.{key_total, key_exact, same_test, bytes_equiv}
 
 -- whether a pair stands before another by its key, and whether their keys are equal

@@ -2,7 +2,9 @@
 use Rattle.std.proofs.Common.{◌≡◌, ℕ, Bool, true, false, List, [], ◌∷◌, ◌++◌, length, Option, ◌⊎◌, ◌↔◌, inl, inr, refl, sym, ap, ap₂, ◌∙◌, subst, arith, append_assoc, append-nil, true≢false}
 use Rattle.std.specs.Char.{is_ascii_whitespace}
 use Rattle.std.proofs.lemmas.Bool.{cases_Bool}
+use Rattle.std.proofs.lemmas.List.Elements.{All-from_recursion}
 use Rattle.gx_bytes.specs.Blanks.{without_leading_blank}
+use Rattle.gx_bytes.proofs.BlankLemmas.{skips_blank as skips_all}
 use Rattle.gx_hstore.specs.Map.{Pair}
 use Rattle.gx_hstore.specs.Text.{Sign, Plain, Escaped, written, meant, ends, Stops, TakesString, value_of, TakesPair, SpellsPairs}
 use Rattle.gx_hstore.specs.Parts.{AreBlank, string_text, IsString, PairPart, IsPairPart, pair_text, pair_meant, IsMadeOf}
@@ -17,8 +19,7 @@ split_blank (c ∷ cs) = elim (cases_Bool (is_ascii_whitespace c)) [
 ]
 
 skips_blank : (blank rest : List ℕ) → AreBlank blank → without_leading_blank (blank ++ rest) ≡ without_leading_blank rest
-skips_blank [] rest h = refl
-skips_blank (c ∷ cs) rest h = rw h.0 (skips_blank cs rest h.1)
+skips_blank blank rest h = skips_all blank rest (All-from_recursion (λ c. is_ascii_whitespace c ≡ true) blank h)
 
 blank_stops : (blank rest : List ℕ) → AreBlank blank → Stops false rest → Stops false (blank ++ rest)
 blank_stops [] rest h s = s

@@ -4,3 +4,5 @@ pub mod Printing
 pub mod Steps
 pub mod Text
 pub mod Parts
+pub mod Operators
+pub mod Decisions

@@ -1,5 +1,5 @@
 -- Finite maps from keys to values or NULL (PostgreSQL 16, F.18), as lists of pairs in the order in which they are printed.
-use Rattle.std.specs.Prelude.{◌≡◌, ℕ, List, length, Option, Some, IfSome, IsSome, IsUtf8, bytes_eq, All}
+use Rattle.std.specs.Prelude.{◌≡◌, ℕ, List, length, Option, IfSome, IsUtf8, bytes_eq, All}
 use Rattle.std.specs.List.Sorted.{IsStrictlySortedBy}
 use Rattle.std.specs.Map.{keys_of, lookup}
 use Rattle.std.specs.Ordering.{nat_cmp, ordering_then}
@@ -36,12 +36,3 @@ pub record IsTextPair (pair : Pair) : Type 0 where
 pub record IsHstore (hstore : List Pair) : Type 0 where
   pub is_map : IsMap hstore
   pub texts : All IsTextPair hstore
-
--- `hstore ? key`
-abbrev pub HasKey : List Pair → List ℕ → Type 0
-HasKey hstore key = IsSome (find key hstore)
-
--- `hstore @> other`: each key of the other map is here with an equal value; NULL equals NULL alone
-abbrev pub ContainsMap : List Pair → List Pair → Type 0
-ContainsMap hstore other =
-    (key : List ℕ) (value : Option (List ℕ)) → find key other ≡ Some value → find key hstore ≡ Some value

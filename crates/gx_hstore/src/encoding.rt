@@ -7,8 +7,7 @@ ghost use Rattle.gx_hstore.specs.Steps.{TakesField, TakesValue, AppendsEntry};
 
 use crate::hstore::{Entry, Hstore};
 use crate::order::is_map;
-use crate::strings::behind_byte;
-use gx_bytes::{Bytes, NoMemory, field, push_field};
+use gx_bytes::{Bytes, NoMemory, behind_byte, field, push_field};
 use std::alloc::Global;
 use std::str;
 
@@ -138,9 +137,3 @@ fn is_text(bytes: &[u8]) -> bool
 {
     str::from_utf8(bytes).is_ok()
 }
-
-/// Bytes have one map, and a map has one list of bytes.
-pub fn one_encoding()
-    ensures maps { (bytes : List ℕ) (a b : List Pair) → IsEncoded bytes a → IsEncoded bytes b → a ≡ b }
-    ensures bytes { (a b : List ℕ) (hstore : List Pair) → IsEncoded a hstore → IsEncoded b hstore → a ≡ b }
-{}

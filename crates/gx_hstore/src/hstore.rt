@@ -1,14 +1,14 @@
 //! A map.
 
-ghost use Rattle.std.specs.Prelude.{◌≡◌, ℕ, ◌≤◌, List, Option, Some, length, slice_get, option_map, MatchOption, IsTrue, ◌↔◌};
-ghost use Rattle.gx_hstore.specs.Map.{IsMap, HasKey, ContainsMap};
+ghost use Rattle.std.specs.Prelude.{◌≡◌, ℕ, ◌≤◌, List, Option, Some, length, slice_get, option_map, MatchOption, IfOk};
+ghost use Rattle.gx_hstore.specs.Map.{IsMap};
 
-use crate::order::{find, holds_all};
-use gx_bytes::Bytes;
+use gx_bytes::{Bytes, NoMemory};
+use std::alloc::Global;
 use std::marker::Model;
 
 /// A key with its value; None is NULL.
-pub(crate) type Entry = (Bytes, Option<Bytes>);
+pub type Entry = (Bytes, Option<Bytes>);
 
 /// A finite map from keys to values or NULL, seen as its pairs in the order in which they are printed:
 /// shorter keys first, then by bytes. Valid where each key and value is UTF-8.
@@ -35,7 +35,7 @@ impl Hstore {
     }
 
     /// The pairs in the order in which they are printed.
-    pub(crate) fn pairs(&self) -> &[Entry]
+    pub fn pairs(&self) -> &[Entry]
         ensures is { result.now ≡ self.now }
         ensures map { IsMap self.now }
     {
@@ -58,19 +58,33 @@ impl Hstore {
         Some((key.as_slice(), value_bytes(value)))
     }
 
-    /// Whether the map has the key (`?`).
-    pub fn has(&self, key: &[u8]) -> bool
-        ensures { IsTrue result ↔ HasKey self.now key.now }
+    /// The same map once more.
+    pub fn copy(&self, alloc: Global) -> Result<Hstore, NoMemory>
+        ensures { IfOk result (λ made. made ≡ self.now) }
     {
-        find(self.pairs(), key).is_some()
+        Ok(Hstore::from_pairs(copied_pairs(alloc, self.pairs())?))
     }
+}
 
-    /// Whether the map has each key of the other one with an equal value (`@>`); NULL equals NULL alone.
-    pub fn contains(&self, other: &Hstore) -> bool
-        ensures { IsTrue result ↔ ContainsMap self.now other.now }
-    {
-        holds_all(self.pairs(), other.pairs())
+fn copied_pairs(alloc: Global, pairs: &[Entry]) -> Result<Vec<Entry>, NoMemory>
+    ensures { IfOk result (λ made. made.items ≡ pairs.now) }
+{
+    let mut copies = Vec::with_capacity(alloc, pairs.len())?;
+    for pair in pairs {
+        copies.push(copied(alloc, pair)?)?;
     }
+    Ok(copies)
+}
+
+fn copied(alloc: Global, pair: &Entry) -> Result<Entry, NoMemory>
+    ensures { IfOk result (λ made. made ≡ pair.now) }
+{
+    let key = pair.0.copy(alloc)?;
+    let value = match &pair.1 {
+        Some(bytes) => Some(bytes.copy(alloc)?),
+        None => None,
+    };
+    Ok((key, value))
 }
 
 /// The value's bytes.

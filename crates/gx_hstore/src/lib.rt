@@ -4,15 +4,12 @@
 mod encoding;
 mod first;
 mod hstore;
+mod laws;
+mod operators;
 mod order;
 mod print;
-mod read;
 mod strings;
+mod text;
 
-pub use encoding::one_encoding;
-pub use hstore::Hstore;
-pub use print::printed_again;
-pub use read::{made_of_pairs, one_answer};
-
-#[cfg(test)]
-mod tests;
+pub use hstore::{Entry, Hstore};
+pub use laws::{decided, made_of_pairs, one_answer, one_encoding, printed_again};

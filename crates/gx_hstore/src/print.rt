@@ -1,8 +1,6 @@
 //! The printed text of a map.
 
-ghost use Rattle.std.specs.Prelude.{◌≡◌, ℕ, List, ◌++◌, OnOk, flat_map, codes};
-ghost use Rattle.gx_hstore.specs.Map.{Pair, IsMap};
-ghost use Rattle.gx_hstore.specs.Text.{SpellsHstore};
+ghost use Rattle.std.specs.Prelude.{◌≡◌, ◌++◌, OnOk, flat_map, codes};
 ghost use Rattle.gx_hstore.specs.Printing.{escaped, in_quotes, printed_pair, printed};
 
 use crate::hstore::{Entry, Hstore};
@@ -69,8 +67,3 @@ fn print_byte(byte: u8, to: &mut Bytes) -> Result<(), NoMemory>
     }
     to.push(byte)
 }
-
-/// The printed text of a map spells it.
-pub fn printed_again()
-    ensures { (hstore : List Pair) → IsMap hstore → SpellsHstore (printed hstore) hstore }
-{}

@@ -1,11 +1,10 @@
 //! Strings in a text: in double quotes, or words.
 
 ghost use Rattle.std.specs.Prelude.{◌≡◌, ◌≢◌, ℕ, Bool, true, false, List, ◌∷◌, IfOk, MatchOption, IsTrue, ◌↔◌};
-ghost use Rattle.gx_bytes.specs.Blanks.{without_leading_blank};
 ghost use Rattle.gx_hstore.specs.Text.{ends, Stops, TakesSigns, TakesString, value_of};
 ghost use Rattle.gx_hstore.specs.Steps.{TakesSign};
 
-use gx_bytes::{Bytes, NoMemory};
+use gx_bytes::{Bytes, NoMemory, behind_byte};
 use std::alloc::Global;
 
 /// The bytes that a string stands for, and whether it was in quotes.
@@ -118,28 +117,4 @@ fn ends(byte: u8, quoted: bool) -> bool
     } else {
         byte.is_ascii_whitespace() || byte == b',' || byte == b'=' || byte == b'>' || byte == b'"'
     }
-}
-
-/// What stands behind a byte at the front.
-pub(crate) fn behind_byte(text: &[u8], wanted: u8) -> Option<&[u8]>
-    ensures { MatchOption result ((rest : List ℕ) → text.now ≢ wanted ∷ rest) (λ rest. text.now ≡ wanted ∷ rest.now) }
-{
-    match text {
-        [first, rest @ ..] if *first == wanted => Some(rest),
-        _ => None,
-    }
-}
-
-/// The text from its first byte on that isn't white space.
-pub(crate) fn without_blanks(text: &[u8]) -> &[u8]
-    ensures { result.now ≡ without_leading_blank text.now }
-{
-    let mut rest = text;
-    while let [first, after @ ..] = rest {
-        if !first.is_ascii_whitespace() {
-            return rest;
-        }
-        rest = after;
-    }
-    rest
 }

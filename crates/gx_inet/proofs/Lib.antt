@@ -1,4 +1,4 @@
-mod SixteenBytes
+pub mod DecisionLemmas
 mod Slashes
 mod Masks
 mod TextLemmas

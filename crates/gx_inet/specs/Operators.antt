@@ -1,8 +1,10 @@
 -- The operators on addresses (PostgreSQL 16, 9.12).
 use Rattle.std.specs.Prelude.{◌≡◌, ℕ, ◌-◌, ◌/◌, ◌^◌, ◌<◌, ◌≤◌, min, Bool, true, false}
-use Rattle.std.specs.Ordering.{bool_cmp, nat_cmp, ordering_then}
+use Rattle.std.specs.Ordering.{bool_cmp, nat_cmp, ordering_then, is_eq, is_ne, is_lt, is_le, is_gt, is_ge}
 use Rattle.std.specs.declared.cmp.Ordering.{Ordering}
 use Rattle.gx_inet.specs.declared.inet.Inet.{Inet}
+use Rattle.gx_inet.specs.declared.inet.InetOp.{InetOp}
+use Rattle.gx_inet.specs.declared.inet.InetOp.TheVariants as ops
 use Rattle.gx_inet.specs.Value.{width}
 
 -- the first n bits of the address
@@ -28,3 +30,17 @@ order x y =
     ordering_then (bool_cmp x.v6 y.v6)
     (ordering_then (nat_cmp (front x (min x.mask y.mask)) (front y (min x.mask y.mask)))
     (ordering_then (nat_cmp x.mask y.mask) (nat_cmp x.address y.address)))
+
+-- the operator holds of x and y: six by the order, `<<` and `<<=`, `>>` and `>>=` the other way round, and `&&`
+abbrev pub Holds : InetOp → Inet → Inet → Type 0
+Holds ops.Equal x y = is_eq (order x y) ≡ true
+Holds ops.NotEqual x y = is_ne (order x y) ≡ true
+Holds ops.Less x y = is_lt (order x y) ≡ true
+Holds ops.LessEqual x y = is_le (order x y) ≡ true
+Holds ops.Greater x y = is_gt (order x y) ≡ true
+Holds ops.GreaterEqual x y = is_ge (order x y) ≡ true
+Holds ops.Within x y = IsWithin x y true
+Holds ops.WithinEqual x y = IsWithin x y false
+Holds ops.Holds x y = IsWithin y x true
+Holds ops.HoldsEqual x y = IsWithin y x false
+Holds ops.Meets x y = Meets x y

@@ -73,8 +73,3 @@ fn wide(bytes: &[u8]) -> Option<u128>
         Err(_) => None,
     }
 }
-
-/// Valid addresses have one encoding each.
-pub fn one_encoding()
-    ensures { (a b : Inet) → IsInet a → IsInet b → encoded a ≡ encoded b → a ≡ b }
-{}

@@ -8,3 +8,19 @@ pub struct Inet {
     pub mask: u8,
     pub address: u128,
 }
+
+/// The operators `= <> < <= > >= << <<= >> >>= &&`, in this order.
+#[derive(Clone, Copy, Debug, PartialEq, Eq)]
+pub enum InetOp {
+    Equal,
+    NotEqual,
+    Less,
+    LessEqual,
+    Greater,
+    GreaterEqual,
+    Within,
+    WithinEqual,
+    Holds,
+    HoldsEqual,
+    Meets,
+}

@@ -3,12 +3,11 @@
 
 mod encoding;
 mod inet;
+mod laws;
 mod operators;
+mod print;
 mod text;
 
-pub use encoding::one_encoding;
-pub use inet::Inet;
-pub use text::{one_answer, printed_again};
-
-#[cfg(test)]
-mod tests;
+pub use inet::{Inet, InetOp};
+pub use laws::{decided, one_answer, one_encoding, printed_again};
+pub use operators::inet_holds;

@@ -2,11 +2,42 @@
 
 ghost use Rattle.std.specs.Prelude.{◌≡◌, ◌≤◌, ◌↔◌, IsTrue};
 ghost use Rattle.gx_inet.specs.Value.{width, IsInet};
-ghost use Rattle.gx_inet.specs.Operators.{front, order, SameFront, IsWithin, Meets};
+ghost use Rattle.gx_inet.specs.Operators.{front, order, SameFront, IsWithin, Meets, Holds};
+ghost use Rattle.gx_inet.specs.Decisions.{holds};
 
-use crate::inet::Inet;
+use crate::inet::{Inet, InetOp};
 use crate::text::width_of;
 use std::cmp::Ordering;
+
+/// Whether the operator holds of the two addresses.
+pub fn inet_holds(op: InetOp, a: &Inet, b: &Inet) -> bool
+    requires left { IsInet a.now }
+    requires right { IsInet b.now }
+    ensures relation { IsTrue result ↔ Holds op a.now b.now }
+    ensures decision { result ≡ holds op a.now b.now }
+{
+    holds_of(op, a, b)
+}
+
+fn holds_of(op: InetOp, a: &Inet, b: &Inet) -> bool
+    requires left { IsInet a.now }
+    requires right { IsInet b.now }
+    ensures { IsTrue result ↔ Holds op a.now b.now }
+{
+    match op {
+        InetOp::Equal => a.compare(b).is_eq(),
+        InetOp::NotEqual => a.compare(b).is_ne(),
+        InetOp::Less => a.compare(b).is_lt(),
+        InetOp::LessEqual => a.compare(b).is_le(),
+        InetOp::Greater => a.compare(b).is_gt(),
+        InetOp::GreaterEqual => a.compare(b).is_ge(),
+        InetOp::Within => a.within(b, true),
+        InetOp::WithinEqual => a.within(b, false),
+        InetOp::Holds => b.within(a, true),
+        InetOp::HoldsEqual => b.within(a, false),
+        InetOp::Meets => a.meets(b),
+    }
+}
 
 impl Inet {
     /// The order of addresses: IPv4 before IPv6, then the bits that both masks cover, then the masks,

@@ -1,16 +1,14 @@
 //! The text of an address.
 
-ghost use Rattle.std.specs.Prelude.{◌≡◌, ◌≢◌, ℕ, ◌≤◌, ◌<◌, ◌^◌, Bool, List, ◌++◌, Result, MatchOption, IsTrue, IfOk, OnOk, true, false, ◌↔◌, decimal};
-ghost use Rattle.std.specs.String.{string_bytes};
-ghost use Rattle.gx_bytes.specs.declared.error.ValueError.{ValueError};
+ghost use Rattle.std.specs.Prelude.{◌≡◌, ◌≢◌, ℕ, ◌≤◌, ◌<◌, ◌^◌, Bool, MatchOption, IsTrue, ◌↔◌, decimal};
 ghost use Rattle.gx_inet.specs.declared.inet.Inet.{Inet};
 ghost use Rattle.gx_inet.specs.Value.{width, IsInet};
-ghost use Rattle.gx_inet.specs.Text.{SpellsAddress, SpellsInet, AnswersInet, IsAddress, HasPlainStart, address_text, mask_text, printed};
+ghost use Rattle.gx_inet.specs.Text.{SpellsAddress, AnswersInet, IsAddress, HasPlainStart};
 
 use crate::inet::Inet;
-use gx_bytes::{Bytes, NoMemory, ValueError};
+use gx_bytes::ValueError;
 use std::alloc::Global;
-use std::net::{IpAddr, Ipv4Addr, Ipv6Addr};
+use std::net::IpAddr;
 
 impl Inet {
     /// Reads the text of an address with an optional mask: dotted decimal, or the forms of RFC 4291,
@@ -22,20 +20,6 @@ impl Inet {
             None => without_mask(text).ok_or(ValueError::NoValue),
             Some((address, digits)) => with_mask(address, digits).ok_or(ValueError::NoValue),
         }
-    }
-
-    /// Appends the text that stands for the address, as PostgreSQL writes it but without a dotted tail.
-    pub fn print(&self, to: &mut Bytes) -> Result<(), NoMemory>
-        requires { IsInet self.now }
-        ensures { OnOk result (to.new ≡ to.old ++ printed self.now) }
-    {
-        print_address(self, to)?;
-        if self.mask == width_of(self.v6) {
-            return Ok(());
-        }
-        let digits = self.mask.to_string(to.allocator())?;
-        to.push(b'/')?;
-        to.extend_from_slice(digits.as_bytes())
     }
 }
 
@@ -101,40 +85,3 @@ fn has_plain_start(digits: &[u8]) -> bool
     }
     digits[0] != b'0' || digits.len() == 1
 }
-
-/// Appends the address alone.
-fn print_address(inet: &Inet, to: &mut Bytes) -> Result<(), NoMemory>
-    requires { IsInet inet.now }
-    ensures { OnOk result (to.new ≡ to.old ++ address_text inet.now.v6 inet.now.address) }
-{
-    let text = if inet.v6 {
-        groups_of(to.allocator(), inet.address)?
-    } else {
-        dotted_of(to.allocator(), inet.address as u32)?
-    };
-    to.extend_from_slice(text.as_bytes())
-}
-
-/// The text of an IPv4 address.
-fn dotted_of(alloc: Global, address: u32) -> Result<String, NoMemory>
-    ensures { IfOk result (λ text. string_bytes text ≡ address_text false address) }
-{
-    Ipv4Addr::from_bits(address).to_string(alloc)
-}
-
-/// The text of an IPv6 address, without a dotted tail.
-fn groups_of(alloc: Global, address: u128) -> Result<String, NoMemory>
-    ensures { IfOk result (λ text. string_bytes text ≡ address_text true address) }
-{
-    Ipv6Addr::from_bits(address).hex_groups().to_string(alloc)
-}
-
-/// A text has one answer.
-pub fn one_answer()
-    ensures { (text : List ℕ) (r s : Result Inet ValueError) → AnswersInet text r → AnswersInet text s → r ≡ s }
-{}
-
-/// The printed text of an address spells it.
-pub fn printed_again()
-    ensures { (inet : Inet) → IsInet inet → SpellsInet (printed inet) inet }
-{}

@@ -1,40 +1,46 @@
 -- Look-ups in the sorted copy of an array.
-use Rattle.std.proofs.Common.{◌≡◌, ℕ, ◌<◌, ◌≤◌, Bool, true, false, List, length, get_or, refl, sym, ap, ◌∙◌, subst, arith, true≢false, ℤ, Contains, All, Result, Ok, Err, is_ok, ◌↔◌, inl, inr, pos, take, ◌+◌}
-use Rattle.std.specs.List.{list_any, AllWithin}
-use Rattle.std.specs.Ordering.{int_cmp, is_eq}
+use Rattle.std.proofs.Common.{◌≡◌, ℕ, ◌<◌, ◌≤◌, Bool, true, false, List, [], length, get_or, refl, sym, ap, ◌∙◌, subst, arith, true≢false, ℤ, Contains, All, Result, Ok, Err, is_ok, ◌↔◌, inl, inr, pos, take, ◌+◌}
+use Rattle.std.specs.Bool.{Decides}
+use Rattle.std.specs.List.{list_any, AllWithin, dedup}
+use Rattle.std.specs.List.Retain.{DiffersFromLast, IsFiltered}
+use Rattle.std.proofs.lemmas.List.Filters.{dedup_is}
+use Rattle.std.proofs.lemmas.List.Kept.{IsStrictlySortedBy-dedup, Contains-dedup, Contains-from_dedup}
+use Rattle.std.proofs.lemmas.Bool.Decides.{Decides-int_eq, same_from_decides}
+use Rattle.std.specs.Ordering.{int_cmp, int_eq, is_eq}
 use Rattle.std.specs.declared.cmp.Ordering.{Ordering}
 use Rattle.std.specs.declared.cmp.Ordering.TheVariants.{Less, Equal, Greater}
 use Rattle.std.specs.List.Sorted.{IsPermutation, IsSorted, IsBinarySearchResult, IsSearchInRange}
 use Rattle.std.proofs.lemmas.Bool.{cases_lt}
-use Rattle.std.proofs.lemmas.Cmp.{int_ranked, int_cmp_total, tied_itself}
+use Rattle.std.proofs.lemmas.Cmp.{int_ranked, int_cmp_total, int_eq_equiv, tied_itself}
 use Rattle.std.proofs.lemmas.List.Sorted.{list_any-IsPermutation, searchable_from_sorted}
 use Rattle.std.proofs.lemmas.List.Folds.{list_any_at, list_any_none, Any-from_list_any}
 use Rattle.std.proofs.lemmas.List.{take_all}
 use Rattle.std.proofs.lemmas.List.Elements.{All-more}
-use Rattle.gx_intarr.specs.Arrays.{IsSortedCopy, ContainsEach}
+use Rattle.gx_intarr.specs.Arrays.{IsSortedCopy, IsDistinctCopy}
+use Rattle.gx_intarr.specs.Operators.{ContainsEach}
 
 pub sorted_copy : (items copy sorted : List ℤ) → copy ≡ items → IsPermutation copy sorted → IsSorted int_cmp sorted → IsSortedCopy items sorted
 sorted_copy items copy sorted e p s = (λ q. ap (list_any q) (sym e) ∙ list_any-IsPermutation q copy sorted p, s)
 
 -- the test for a number
-abbrev is_number : ℤ → ℤ → Bool
+abbrev pub is_number : ℤ → ℤ → Bool
 is_number n y = is_eq (int_cmp y n)
 
-equal_is : (y n : ℤ) → int_cmp y n ≡ Equal → y ≡ n
+pub equal_is : (y n : ℤ) → int_cmp y n ≡ Equal → y ≡ n
 equal_is y n e = int_ranked y n Equal (sym e)
 
-is_equal : (y n : ℤ) → y ≡ n → is_number n y ≡ true
+pub is_equal : (y n : ℤ) → y ≡ n → is_number n y ≡ true
 is_equal y n e = ap (λ z. is_eq (int_cmp z n)) e ∙ ap is_eq (tied_itself int_cmp_total n)
 
-passes_equal : (o : Ordering) → is_eq o ≡ true → o ≡ Equal
+pub passes_equal : (o : Ordering) → is_eq o ≡ true → o ≡ Equal
 passes_equal Less e = absurd (true≢false (sym e))
 passes_equal Equal e = refl
 passes_equal Greater e = absurd (true≢false (sym e))
 
-contains_passes : (xs : List ℤ) (n : ℤ) → Contains xs n → list_any (is_number n) xs ≡ true
+pub contains_passes : (xs : List ℤ) (n : ℤ) → Contains xs n → list_any (is_number n) xs ≡ true
 contains_passes xs n c = list_any_at (is_number n) xs c.0 n c.1 (is_equal (get_or xs c.0 n) n c.2)
 
-passes_contains : (xs : List ℤ) (n : ℤ) → list_any (is_number n) xs ≡ true → Contains xs n
+pub passes_contains : (xs : List ℤ) (n : ℤ) → list_any (is_number n) xs ≡ true → Contains xs n
 passes_contains xs n e =
     let a = Any-from_list_any (is_number n) xs e in
     let same : a.1 ≡ n = equal_is a.1 n (passes_equal (int_cmp a.1 n) a.4) in
@@ -82,3 +88,23 @@ pub all_found : (a b items : List ℤ) (i : ℕ) → All (λ n. Contains a n) (t
 all_found a b items i before end same =
     let P : List ℤ → Type 0 = λ t. All (λ n. Contains a n) t in
     subst P (take_all i items end ∙ same) before
+
+pub same_number : (y n : ℤ) → Decides (is_number n y) (y ≡ n)
+same_number y n = (λ e. equal_is y n (passes_equal (int_cmp y n) e), is_equal y n)
+
+sorted_has : (items sorted : List ℤ) (n : ℤ) → IsSortedCopy items sorted → Contains items n ↔ Contains sorted n
+sorted_has items sorted n copy = (
+  λ c. passes_contains sorted n (sym (copy.0 (is_number n)) ∙ contains_passes items n c),
+  λ c. passes_contains items n (copy.0 (is_number n) ∙ contains_passes sorted n c),
+)
+
+-- the elements of the sorted copy, each once
+pub distinct_copy : (now items sorted copy distinct : List ℤ) → items ≡ now → copy ≡ sorted → IsSortedCopy items sorted → IsFiltered (DiffersFromLast int_eq) [] copy distinct → IsDistinctCopy now distinct
+distinct_copy now items sorted copy distinct e f h d =
+    let is : distinct ≡ dedup int_eq sorted = dedup_is int_eq copy distinct d ∙ ap (dedup int_eq) f in
+    let strict = IsStrictlySortedBy-dedup int_cmp_total (λ x y. same_from_decides (int_eq x y) (is_eq (int_cmp x y)) (Decides-int_eq x y) (same_number x y)) sorted h.1 in
+    let each : (n : ℤ) → Contains items n ↔ Contains (dedup int_eq sorted) n = λ n. (
+      λ c. Contains-dedup int_eq_equiv (λ x y t. (Decides-int_eq x y).0 t) sorted n ((sorted_has items sorted n h).0 c),
+      λ c. (sorted_has items sorted n h).1 (Contains-from_dedup int_eq sorted n c),
+    ) in
+    subst (λ (x : List ℤ). IsDistinctCopy x distinct) e (subst (IsDistinctCopy items) (sym is) (each, strict))

@@ -1,5 +1,5 @@
--- A number at the front of a text is one.
-use Rattle.std.proofs.Common.{◌≡◌, ◌≢◌, ℕ, suc, ◌+◌, ◌<◌, ◌≤◌, Bool, true, false, List, [], ◌∷◌, ◌++◌, length, take, drop, refl, sym, ap, ap₂, ◌∙◌, subst, arith, true≢false, take-append-drop, length-append, length-take-le, ℤ, nat_eq, ne_eqb, Err}
+-- What is taken for a number.
+use Rattle.std.proofs.Common.{◌≡◌, ◌≢◌, ℕ, suc, ◌+◌, ◌<◌, ◌≤◌, Bool, true, false, List, [], ◌∷◌, ◌++◌, length, take, drop, refl, sym, ap, ap₂, ◌∙◌, subst, arith, true≢false, take-append-drop, length-take-le, ℤ, nat_eq, ne_eqb, Err}
 use Rattle.std.specs.Char.{is_ascii_digit}
 use Rattle.std.specs.Int.{IsInRange}
 use Rattle.std.specs.List.{AllByRecursion}
@@ -13,45 +13,11 @@ use Rattle.gx_bytes.specs.declared.error.ValueError.TheVariants.{NoValue, OutOfR
 use Rattle.gx_bytes.proofs.WholeLemmas.{numeral_bare, signed_bare, spelled_bare}
 use Rattle.gx_intarr.specs.Runs.{Pass, Stops}
 use Rattle.gx_intarr.specs.Arrays.{least, greatest}
-use Rattle.gx_intarr.specs.Pieces.{minus_sign, TakesNumber}
-use Rattle.gx_intarr.proofs.RunLemmas.{one_run}
+use Rattle.gx_intarr.specs.Numbers.{minus_sign, TakesNumber}
+use Rattle.gx_intarr.specs.Laws.{no_minus}
 
 abbrev Digits : List ℕ → Type 0
 Digits bytes = Pass is_ascii_digit bytes
-
--- a minus is no digit
-no_minus : (digits x rest : List ℕ) → Digits digits → 0 < length digits → digits ++ x ≡ 45 ∷ rest → ⊥
-no_minus [] x rest p some e = omega arith
-no_minus (c ∷ digits) x rest p some e =
-    let head : c ≡ 45 = cc in
-    let digit : is_ascii_digit 45 ≡ true = subst (λ (k : ℕ). is_ascii_digit k ≡ true) head p.0 in
-    true≢false (sym digit)
-
-one_signed : (m n : Bool) (a b x y : List ℕ) → Digits a → Digits b → 0 < length a → 0 < length b → Stops is_ascii_digit x → Stops is_ascii_digit y → (minus_sign m ++ a) ++ x ≡ (minus_sign n ++ b) ++ y → (minus_sign m ++ a ≡ minus_sign n ++ b) × (x ≡ y)
-one_signed true true a b x y p q some more s t e =
-    let all : 45 ∷ (a ++ x) ≡ 45 ∷ (b ++ y) = e in
-    let tail : a ++ x ≡ b ++ y = cc in
-    let same = one_run is_ascii_digit a b x y p q s t tail in
-    (ap (λ (d : List ℕ). 45 ∷ d) same.0, same.1)
-one_signed true false a b x y p q some more s t e = absurd (no_minus b y (a ++ x) q more (sym e))
-one_signed false true a b x y p q some more s t e = absurd (no_minus a x (b ++ y) p some e)
-one_signed false false a b x y p q some more s t e = one_run is_ascii_digit a b x y p q s t e
-
-pub one_number : (text a b x y : List ℕ) → TakesNumber text a x → TakesNumber text b y → (a ≡ b) × (x ≡ y)
-one_number text a b x y s t =
-    let joined : (minus_sign s.minus ++ s.digits) ++ x ≡ (minus_sign t.minus ++ t.digits) ++ y =
-    ap (λ (r : List ℕ). r ++ x) (sym s.is) ∙ sym s.parts ∙ t.parts ∙ ap (λ (r : List ℕ). r ++ y) t.is in
-    let same = one_signed s.minus t.minus s.digits t.digits x y s.each t.each s.some t.some s.stops t.stops joined in
-    (s.is ∙ same.0 ∙ sym t.is, same.1)
-
-number_some : (m : Bool) (digits rest : List ℕ) → 0 < length digits → length rest < length ((minus_sign m ++ digits) ++ rest)
-number_some true digits rest some = omega (arith, length-append (45 ∷ digits) rest)
-number_some false digits rest some = omega (arith, length-append digits rest)
-
--- what stands behind a number is shorter
-pub length-behind : (text raw rest : List ℕ) → TakesNumber text raw rest → length rest < length text
-length-behind text raw rest t =
-    omega (arith, ap length (t.parts ∙ ap (λ (r : List ℕ). r ++ rest) t.is), number_some t.minus t.digits rest t.some)
 
 -- the digits behind a minus
 pub takes_signed : (text behind raw rest : List ℕ) (n : ℕ) → text ≡ 45 ∷ behind → n ≤ length behind → Digits (take n behind) → Stops is_ascii_digit (drop n behind) → 0 < n → raw ≡ take (1 + n) text → rest ≡ drop (1 + n) text → TakesNumber text raw rest

@@ -4,7 +4,8 @@ use Rattle.std.specs.List.{AllByRecursion}
 use Rattle.gx_bytes.specs.Blanks.{core_of}
 use Rattle.gx_intarr.specs.Texts.{Sign, written, IsSign, signs_text, is_plain, IsNullWord, IsBareword, SpellsElement}
 use Rattle.gx_intarr.specs.Runs.{Pass, Stops}
-use Rattle.gx_intarr.proofs.RunLemmas.{one_run, heads}
+use Rattle.gx_intarr.specs.Laws.{one_run}
+use Rattle.gx_intarr.proofs.RunLemmas.{heads}
 use Rattle.gx_intarr.specs.Reading.{TakesSign, TakesQuoted, TakesBareword, TakesElement}
 
 abbrev pub AreSigns : List Sign → Type 0

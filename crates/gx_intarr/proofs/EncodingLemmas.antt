@@ -1,13 +1,13 @@
 -- The bytes of an array are its own.
-use Rattle.std.proofs.Common.{◌≡◌, ◌≢◌, ℕ, ◌+◌, ◌*◌, ◌^◌, ◌<◌, List, [], ◌∷◌, ◌++◌, length, take, drop, refl, sym, ap, ap₂, ◌∙◌, subst, arith, append_assoc, append-nil, length-append, take-append-drop, ℤ, FitsSigned, w32, of_z, to_z, to_z-of_z}
+use Rattle.std.proofs.Common.{◌≡◌, ◌≢◌, ℕ, ◌+◌, ◌*◌, ◌^◌, ◌<◌, Result, Ok, Err, OnOk, List, [], ◌∷◌, ◌++◌, length, take, drop, refl, sym, ap, ap₂, ◌∙◌, subst, arith, append_assoc, append-nil, length-append, take-append-drop, ℤ, FitsSigned, w32, of_z, to_z, to_z-of_z}
 use Rattle.std.proofs.Math.Facts.{Fits-of_z}
 use Rattle.std.specs.Int.{from_le_bytes}
 use Rattle.std.proofs.lemmas.Int.{ints}
 use Rattle.std.proofs.lemmas.Nat.{from_le_bytes-to_le_bytes_4}
 use borrow.Author.Differences.{fits_in}
-use Rattle.gx_bytes.specs.Varints.{IsVarint}
+use Rattle.gx_bytes.specs.Varints.{IsVarint, AppendsVarint}
 use Rattle.gx_bytes.proofs.Spellings.{varints_same}
-use Rattle.gx_intarr.specs.Arrays.{IsInt4, IsArray, number_bytes, items_bytes, IsEncoding}
+use Rattle.gx_intarr.specs.Arrays.{IsInt4, IsArray, number_bytes, items_bytes, IsEncoding, AppendsArray}
 
 pub int4_fits : (n : ℤ) → IsInt4 n → FitsSigned w32 n
 int4_fits n w = fits_in w32 n (omega (arith, ints, w.0, w.1))
@@ -86,3 +86,15 @@ other_count bytes rest n len found v e f ne items valid s =
     let same = behind_count bytes n len items v s in
     let all : items_bytes found ≡ items_bytes items = sym f ∙ e ∙ same.1 in
     ne (omega (arith, ap length all, length-items found, length-items items, same.0))
+
+pub on_more : {T E : Type 0} (r : Result T E) (P Q : Type 0) → (P → Q) → OnOk r P → OnOk r Q
+on_more (Ok x) P Q f p = f p
+on_more (Err e) P Q f p = p
+
+-- a count and numbers behind it
+pub appends : (old mid new : List ℕ) (items first second : List ℤ) → first ≡ items → second ≡ items → AppendsVarint old mid (length first) → new ≡ mid ++ items_bytes second → AppendsArray old new items
+appends old mid new items first second e f v g = (
+  v.0 ++ items_bytes items,
+  (v.0, subst (λ (l : List ℤ). IsVarint v.0 (length l)) e v.1, refl),
+  g ∙ ap (λ (l : List ℤ). mid ++ items_bytes l) f ∙ ap (λ (t : List ℕ). t ++ items_bytes items) v.2 ∙ append_assoc old v.0 (items_bytes items),
+)

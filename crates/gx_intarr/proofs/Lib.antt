@@ -6,7 +6,5 @@ pub mod NumberLemmas
 pub mod EncodingLemmas
 pub mod PrintLemmas
 pub mod DigitLemmas
-mod PieceLemmas
-mod StandLemmas
 mod QueryLemmas
-mod PartLemmas
+pub mod OperatorLemmas

@@ -1,12 +1,13 @@
 -- The numbers that texts spell, from the left.
-use Rattle.std.proofs.Common.{◌≡◌, ◌≢◌, ℕ, zero, suc, ◌+◌, ◌<◌, inl, inr, List, [], ◌∷◌, ◌++◌, length, get_or, take, drop, Result, Ok, Err, refl, sym, ap, ap₂, ◌∙◌, subst, arith, ℤ}
-use Rattle.std.proofs.lemmas.Int.{ints}
+use Rattle.std.proofs.Common.{◌≡◌, ℕ, zero, suc, ◌+◌, ◌<◌, List, [], ◌∷◌, ◌++◌, length, get_or, take, drop, Result, Ok, Err, refl, sym, ap, ap₂, ◌∙◌, subst, arith, ℤ}
 use Rattle.gx_bytes.specs.declared.error.ValueError.{ValueError}
 use Rattle.gx_bytes.specs.declared.error.ValueError.TheVariants.{NoValue, OutOfRange, TooDeep, Memory}
 use Rattle.gx_bytes.specs.Wholes.{SpellsWhole, IsOutside, AnswersWhole}
 use Rattle.gx_bytes.proofs.WholeLemmas.{one_whole}
 use Rattle.gx_intarr.specs.Texts.{SpellsTexts, AnswersTexts}
 use Rattle.gx_intarr.specs.Arrays.{least, greatest, IsInt4, SpellsInt4, AreNumbers, LeavesRange, AnswersNumbers, SpellsArray, HasFarNumber, AnswersArray}
+use Rattle.gx_bytes.proofs.SingleAnswers.{IsSingle}
+use Rattle.gx_intarr.specs.Laws.{apart}
 use Rattle.gx_intarr.proofs.TextLemmas.{one_texts}
 
 pub numbers-push : (texts : List (List ℕ)) (items : List ℤ) (text : List ℕ) (n : ℤ) → AreNumbers texts items → SpellsInt4 text n → AreNumbers (texts ++ text ∷ []) (items ++ n ∷ [])
@@ -18,10 +19,6 @@ numbers-push (t ∷ texts) (m ∷ items) text n p q = (p.0, numbers-push texts i
 -- the text spells no int4
 abbrev IsFault : List ℕ → Type 0
 IsFault text = (n : ℤ) → SpellsInt4 text n → ⊥
-
-pub apart : (n : ℤ) → IsInt4 n → IsOutside least greatest n → ⊥
-apart n w (inl low) = omega (arith, ints, w.0, low)
-apart n w (inr high) = omega (arith, ints, w.1, high)
 
 outside_is_fault : (text : List ℕ) (n : ℤ) → SpellsWhole text n → IsOutside least greatest n → IsFault text
 outside_is_fault text n s outside m t = apart m t.1 (subst (IsOutside least greatest) (one_whole text n m s t.0) outside)
@@ -133,17 +130,13 @@ not_both text items s f = stay_inside s.texts items s.numbers (subst LeavesRange
 one_array : (text : List ℕ) (a b : List ℤ) → SpellsArray text a → SpellsArray text b → a ≡ b
 one_array text a b s t = one_numbers s.texts a b s.numbers (subst (λ (x : List (List ℕ)). AreNumbers x b) (one_texts text t.texts s.texts t.spelled s.spelled) t.numbers)
 
-pub same_answer : (text : List ℕ) (r s : Result (List ℤ) ValueError) → r ≢ Err Memory → s ≢ Err Memory → AnswersArray text r → AnswersArray text s → r ≡ s
-same_answer text (Ok a) (Ok b) m n p q = ap Ok (one_array text a b p q)
-same_answer text (Ok a) (Err NoValue) m n p q = absurd (q.0 a p)
-same_answer text (Ok a) (Err OutOfRange) m n p q = absurd (not_both text a p q)
-same_answer text (Err NoValue) (Ok b) m n p q = absurd (p.0 b q)
-same_answer text (Err NoValue) (Err NoValue) m n p q = refl
-same_answer text (Err NoValue) (Err OutOfRange) m n p q = absurd (p.1 q)
-same_answer text (Err OutOfRange) (Ok b) m n p q = absurd (not_both text b q p)
-same_answer text (Err OutOfRange) (Err NoValue) m n p q = absurd (q.1 p)
-same_answer text (Err OutOfRange) (Err OutOfRange) m n p q = refl
-same_answer text (Err TooDeep) s m n p q = absurd p
-same_answer text (Err Memory) s m n p q = absurd (m refl)
-same_answer text r (Err TooDeep) m n p q = absurd q
-same_answer text r (Err Memory) m n p q = absurd (n refl)
+pub single : (text : List ℕ) → IsSingle (AnswersArray text)
+single text = record {
+  one = one_array text;
+  no_value = λ items s none. none.0 items s;
+  out_of_range = not_both text;
+  too_deep = λ items s deep. deep;
+  none_or_out = λ none far. none.1 far;
+  none_or_deep = λ none deep. deep;
+  out_or_deep = λ far deep. deep;
+}

@@ -5,6 +5,7 @@ use Rattle.std.proofs.lemmas.List.Elements.{AllZip-push}
 use Rattle.gx_bytes.specs.Blanks.{core_of}
 use Rattle.gx_bytes.specs.declared.error.ValueError.{ValueError}
 use Rattle.gx_bytes.specs.declared.error.ValueError.TheVariants.{NoValue, OutOfRange, TooDeep, Memory}
+use Rattle.gx_bytes.proofs.SingleAnswers.{IsSingle}
 use Rattle.gx_intarr.specs.Runs.{Stops}
 use Rattle.gx_intarr.specs.Texts.{is_plain, SpellsElement, closed, braced, SpellsTexts, AnswersTexts}
 use Rattle.gx_intarr.specs.Reading.{TakesElement, SpellsElements, AnswersElements}
@@ -194,14 +195,13 @@ one_braced (raw ∷ raws) texts (o ∷ others) as' p q e =
 pub one_texts : (text : List ℕ) (a b : List (List ℕ)) → SpellsTexts text a → SpellsTexts text b → a ≡ b
 one_texts text a b s t = one_closed s.raws a t.raws b s.each t.each (one_braced s.raws a t.raws b s.each t.each (sym s.parts ∙ t.parts))
 
-pub same_answer : (text : List ℕ) (r s : Result (List (List ℕ)) ValueError) → r ≢ Err Memory → s ≢ Err Memory → AnswersTexts text r → AnswersTexts text s → r ≡ s
-same_answer text (Ok a) (Ok b) m n p q = ap Ok (one_texts text a b p q)
-same_answer text (Ok a) (Err NoValue) m n p q = absurd (q a p)
-same_answer text (Err NoValue) (Ok b) m n p q = absurd (p b q)
-same_answer text (Err NoValue) (Err NoValue) m n p q = refl
-same_answer text (Err OutOfRange) s m n p q = absurd p
-same_answer text (Err TooDeep) s m n p q = absurd p
-same_answer text (Err Memory) s m n p q = absurd (m refl)
-same_answer text r (Err OutOfRange) m n p q = absurd q
-same_answer text r (Err TooDeep) m n p q = absurd q
-same_answer text r (Err Memory) m n p q = absurd (n refl)
+pub single : (text : List ℕ) → IsSingle (AnswersTexts text)
+single text = record {
+  one = one_texts text;
+  no_value = λ texts s none. none texts s;
+  out_of_range = λ texts s out. out;
+  too_deep = λ texts s deep. deep;
+  none_or_out = λ none out. out;
+  none_or_deep = λ none deep. deep;
+  out_or_deep = λ out deep. out;
+}

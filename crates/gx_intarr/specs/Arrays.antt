@@ -1,7 +1,7 @@
--- Arrays of int4 (PostgreSQL 16, 8.15 and F.20): lists of numbers, their texts, their bytes and their operators.
-use Rattle.std.specs.Prelude.{◌≡◌, ℕ, ◌^◌, ◌-◌, Bool, List, ◌∷◌, ◌++◌, length, map, Contains, All, Any, ℤ, pos, neg_ℤ, Option, None, Some, Result, Ok, Err}
+-- Arrays of int4 (PostgreSQL 16, 8.15): lists of numbers, their texts and their bytes.
+use Rattle.std.specs.Prelude.{◌≡◌, ℕ, ◌^◌, ◌-◌, Bool, List, ◌∷◌, ◌++◌, length, map, Contains, ◌↔◌, ℤ, pos, neg_ℤ, Option, None, Some, Result, Ok, Err}
 use Rattle.std.specs.List.{AllZip, AllByRecursion, flat_map, list_any}
-use Rattle.std.specs.List.Sorted.{IsSorted}
+use Rattle.std.specs.List.Sorted.{IsSorted, IsStrictlySortedBy}
 use Rattle.std.specs.Ordering.{int_cmp}
 use Rattle.std.specs.Int.{w32, to_le_bytes, cast_unsigned}
 use Rattle.std.specs.Fmt.{signed_decimal}
@@ -29,6 +29,10 @@ IsArray items = AllByRecursion IsInt4 items
 -- the elements again, in rising order
 abbrev pub IsSortedCopy : List ℤ → List ℤ → Type 0
 IsSortedCopy items sorted = ((p : ℤ → Bool) → list_any p items ≡ list_any p sorted) × IsSorted int_cmp sorted
+
+-- the elements, each once, in rising order
+abbrev pub IsDistinctCopy : List ℤ → List ℤ → Type 0
+IsDistinctCopy items distinct = ((n : ℤ) → Contains items n ↔ Contains distinct n) × IsStrictlySortedBy int_cmp distinct
 
 abbrev pub SpellsInt4 : List ℕ → ℤ → Type 0
 SpellsInt4 text n = SpellsWhole text n × IsInt4 n
@@ -101,11 +105,3 @@ abbrev pub DecodesTo : List ℕ → Result (Option (List ℤ)) AllocError → Ty
 DecodesTo bytes (Ok None) = (items : List ℤ) → IsArray items → IsEncoding bytes items → ⊥
 DecodesTo bytes (Ok (Some items)) = IsArray items × IsEncoding bytes items
 DecodesTo bytes (Err _) = Unit {0}
-
--- `&&`: some element of b is one of a
-abbrev pub Overlap : List ℤ → List ℤ → Type 0
-Overlap a b = Any (λ n. Contains a n) b
-
--- `@>`: each element of b is one of a
-abbrev pub ContainsEach : List ℤ → List ℤ → Type 0
-ContainsEach a b = All (λ n. Contains a n) b

@@ -2,7 +2,8 @@ pub mod Runs
 pub mod Texts
 pub mod Reading
 pub mod Arrays
+pub mod Numbers
 pub mod Formula
-pub mod Pieces
 pub mod Queries
-pub mod Parts
+pub mod Operators
+pub mod Laws

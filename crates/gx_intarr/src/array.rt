@@ -1,7 +1,7 @@
 //! An array of int4.
 
 ghost use Rattle.std.specs.Prelude.{◌≡◌, ℤ, List, Contains, IsTrue, ◌↔◌, IfOk};
-ghost use Rattle.gx_intarr.specs.Arrays.{IsSortedCopy, Overlap, ContainsEach};
+ghost use Rattle.gx_intarr.specs.Arrays.{IsSortedCopy, IsDistinctCopy};
 
 use gx_bytes::NoMemory;
 use std::alloc::Global;
@@ -40,36 +40,26 @@ impl IntArray {
         self.items.as_slice()
     }
 
+    /// The elements, each once, in rising order.
+    pub fn distinct(&self, alloc: Global) -> Result<Vec<i32>, NoMemory>
+        ensures { IfOk result (λ items. IsDistinctCopy self.now items.items) }
+    {
+        let mut items = Vec::from_slice(alloc, self.sorted.as_slice())?;
+        items.dedup();
+        Ok(items)
+    }
+
+    /// A copy of the array.
+    pub fn copy(&self, alloc: Global) -> Result<IntArray, NoMemory>
+        ensures { IfOk result (λ array. array ≡ self.now) }
+    {
+        IntArray::from_items(alloc, Vec::from_slice(alloc, self.items.as_slice())?)
+    }
+
     /// Whether the number is an element. The work grows with the logarithm of the array's length.
     pub(crate) fn has(&self, number: &i32) -> bool
         ensures { IsTrue result ↔ Contains self.now number.now }
     {
         self.sorted.binary_search(number).is_ok()
-    }
-
-    /// Whether some number is an element of both (`&&`).
-    pub fn overlaps(&self, other: &IntArray) -> bool
-        ensures { IsTrue result ↔ Overlap self.now other.now }
-    {
-        other.items().iter().any(|number| self.has(number))
-    }
-
-    /// Whether each element of `other` is an element of this array (`@>`).
-    pub fn contains(&self, other: &IntArray) -> bool
-        ensures { IsTrue result ↔ ContainsEach self.now other.now }
-    {
-        for number in other.items() {
-            if !self.has(number) {
-                return false;
-            }
-        }
-        true
-    }
-
-    /// Whether both have the same elements in the same order (`=`).
-    pub fn same(&self, other: &IntArray) -> bool
-        ensures { IsTrue result ↔ (self.now ≡ other.now) }
-    {
-        self.items.as_slice() == other.items.as_slice()
     }
 }

@@ -5,18 +5,8 @@ ghost use Rattle.gx_intarr.specs.Runs.{Pass, Stops};
 ghost use Rattle.gx_intarr.specs.Texts.{is_plain};
 ghost use Rattle.gx_intarr.specs.Reading.{TakesSign, TakesElement};
 
-use gx_bytes::{Bytes, NoMemory, trimmed};
+use gx_bytes::{Bytes, NoMemory, behind_byte, trimmed};
 use std::alloc::Global;
-
-/// What stands behind a byte at the front.
-pub(crate) fn behind_byte(text: &[u8], wanted: u8) -> Option<&[u8]>
-    ensures { MatchOption result ((rest : List ℕ) → text.now ≢ wanted ∷ rest) (λ rest. text.now ≡ wanted ∷ rest.now) }
-{
-    match text {
-        [first, rest @ ..] if *first == wanted => Some(rest),
-        _ => None,
-    }
-}
 
 /// Whether the closing brace comes, and nothing behind it.
 pub(crate) fn is_end(text: &[u8]) -> bool

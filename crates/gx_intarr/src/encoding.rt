@@ -1,7 +1,7 @@
 //! Arrays as bytes.
 
 ghost use Rattle.std.specs.Prelude.{◌≡◌, ◌<◌, ℕ, ℤ, List, ◌++◌, length, OnOk, MatchOption, IfOk};
-ghost use Rattle.gx_intarr.specs.Arrays.{IsArray, IsInt4, number_bytes, items_bytes, IsEncoding, AppendsArray, DecodesTo};
+ghost use Rattle.gx_intarr.specs.Arrays.{IsArray, IsInt4, number_bytes, items_bytes, AppendsArray, DecodesTo};
 
 use crate::array::IntArray;
 use gx_bytes::{Bytes, NoMemory, push_varint, varint};
@@ -78,8 +78,3 @@ fn number_from(bytes: &[u8]) -> i32
 {
     i32::from_le_bytes([bytes[0], bytes[1], bytes[2], bytes[3]])
 }
-
-/// Two arrays have different bytes.
-pub fn one_encoding()
-    ensures { (bytes : List ℕ) (a b : List ℤ) → IsArray a → IsArray b → IsEncoding bytes a → IsEncoding bytes b → a ≡ b }
-{}

@@ -5,19 +5,17 @@ mod array;
 mod elements;
 mod encoding;
 mod formula;
-mod lexer;
+mod laws;
+mod number;
+mod operators;
 mod print;
-mod query;
-mod read;
+mod text;
 mod texts;
 
 pub use array::IntArray;
-pub use encoding::one_encoding;
 pub use formula::{IntFormula, QueryInt};
-pub use print::printed_again;
-pub use query::{made_of_pieces, one_query_answer};
-pub use read::one_array_answer;
-pub use texts::{Texts, one_answer};
-
-#[cfg(test)]
-mod tests;
+pub use laws::{
+    holds_decided, one_answer, one_array_answer, one_encoding, one_query_answer, printed_again,
+};
+pub use operators::IntQuery;
+pub use texts::Texts;

@@ -1,9 +1,9 @@
 //! The text of an array.
 
-ghost use Rattle.std.specs.Prelude.{◌≡◌, ℤ, List, ◌++◌, map, OnOk};
+ghost use Rattle.std.specs.Prelude.{◌≡◌, ◌++◌, map, OnOk};
 ghost use Rattle.std.specs.Fmt.{signed_decimal};
 ghost use Rattle.gx_intarr.specs.Texts.{closed};
-ghost use Rattle.gx_intarr.specs.Arrays.{IsArray, SpellsArray, printed};
+ghost use Rattle.gx_intarr.specs.Arrays.{printed};
 
 use crate::array::IntArray;
 use gx_bytes::{Bytes, NoMemory, print_whole};
@@ -38,8 +38,3 @@ fn print_more(items: &[i32], to: &mut Bytes) -> Result<(), NoMemory>
     }
     to.push(b'}')
 }
-
-/// The printed text of an array spells it.
-pub fn printed_again()
-    ensures { (items : List ℤ) → IsArray items → SpellsArray (printed items) items }
-{}

@@ -1,12 +1,11 @@
 //! The elements of an array text.
 
-ghost use Rattle.std.specs.Prelude.{◌≡◌, ◌≢◌, ℕ, List, [], ◌∷◌, ◌++◌, length, OnOk, OnErr, option_map, slice_get, Result};
-ghost use Rattle.gx_bytes.specs.declared.error.ValueError.{ValueError};
+ghost use Rattle.std.specs.Prelude.{◌≡◌, ℕ, List, [], ◌∷◌, ◌++◌, length, IfOk, OnOk, OnErr, option_map, slice_get};
 ghost use Rattle.gx_intarr.specs.Texts.{AnswersTexts};
 ghost use Rattle.gx_intarr.specs.Reading.{AnswersElements};
 
-use crate::elements::{behind_byte, is_end, take_element};
-use gx_bytes::{Bytes, NoMemory, ValueError, trimmed};
+use crate::elements::{is_end, take_element};
+use gx_bytes::{Bytes, NoMemory, ValueError, behind_byte, trimmed};
 use std::alloc::Global;
 use std::marker::Model;
 
@@ -59,10 +58,21 @@ impl Texts {
     }
 
     /// The texts in order.
-    pub(crate) fn as_slice(&self) -> &[Bytes]
+    pub fn as_slice(&self) -> &[Bytes]
         ensures { result.now ≡ self.now }
     {
         self.texts.as_slice()
+    }
+
+    /// A copy of the texts.
+    pub fn copy(&self, alloc: Global) -> Result<Texts, NoMemory>
+        ensures { IfOk result (λ copy. copy ≡ self.now) }
+    {
+        let mut copy = Texts::new(alloc);
+        for text in self.as_slice() {
+            copy.push(text.copy(alloc)?)?;
+        }
+        Ok(copy)
     }
 
     /// Reads the elements of an array text, as `{a, "b c"}`, each without its quotes, its backslashes and
@@ -103,8 +113,3 @@ fn elements_of(alloc: Global, text: &[u8]) -> Result<Texts, ValueError>
         rest = more;
     }
 }
-
-/// A text has one answer of [`Texts::read`], unless memory is wanting.
-pub fn one_answer()
-    ensures { (text : List ℕ) (r s : Result (List (List ℕ)) ValueError) → r ≢ Err ValueError.Memory → s ≢ Err ValueError.Memory → AnswersTexts text r → AnswersTexts text s → r ≡ s }
-{}

@@ -25,11 +25,12 @@ pub stored_push : (js : List Json) (j : Json) → AreStored (items_data js) → 
 stored_push [] j h s = (s, tt)
 stored_push (x ∷ js) j h s = (h.0, stored_push js j h.1 s)
 
-pub copied_more : (copies new : List Json) (vs : List Value) (i : ℕ) (j : Json) (v : Value) → i < length vs → v ≡ get_or vs i v → map data_of copies ≡ map view (take i vs) → data_of j ≡ view v → new ≡ copies ++ j ∷ []
-    → map data_of new ≡ map view (take (i + 1) vs)
-copied_more copies new vs i j v within is same one more =
-    ap (map data_of) more ∙ map_push data_of copies j ∙ ap (λ (d : Data). map data_of copies ++ d ∷ []) one ∙ ap (λ (ds : List Data). ds ++ view v ∷ []) same
-    ∙ sym (ap (map view) (take_more vs i v within ∙ ap (λ (x : Value). take i vs ++ x ∷ []) (sym is)) ∙ map_push view (take i vs) v)
+-- one copy more
+pub mapped_more : {X Y D : Type 0} (f : X → D) (g : Y → D) (copies new : List X) (vs : List Y) (i : ℕ) (j : X) (v : Y) → i < length vs → v ≡ get_or vs i v → map f copies ≡ map g (take i vs) → f j ≡ g v → new ≡ copies ++ j ∷ []
+    → map f new ≡ map g (take (i + 1) vs)
+mapped_more {X} {Y} {D} f g copies new vs i j v within is same one more =
+    ap (map f) more ∙ map_push f copies j ∙ ap (λ (d : D). map f copies ++ d ∷ []) one ∙ ap (λ (ds : List D). ds ++ g v ∷ []) same
+    ∙ sym (ap (map g) (take_more vs i v within ∙ ap (λ (x : Y). take i vs ++ x ∷ []) (sym is)) ∙ map_push g (take i vs) v)
 
 -- ---- members
 

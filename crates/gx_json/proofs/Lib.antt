@@ -12,3 +12,5 @@ pub mod KeyLemmas
 pub mod PrintedTrees
 pub mod PrintedTokens
 pub mod PrintedChecks
+pub mod DecisionLemmas
+pub mod KeySearch

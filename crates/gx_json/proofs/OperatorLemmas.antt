@@ -10,7 +10,7 @@ use Rattle.serde_json.specs.Data.{Data, array, object, Items, item, Members, no_
 use Rattle.gx_json.specs.declared.document.Json.{Json}
 use Rattle.gx_json.specs.Tree.{data_of, items_data, members_data}
 use Rattle.gx_json.specs.Valid.{IsBelow, IsBelowAll, IsRising}
-use Rattle.gx_json.specs.Operators.{SomeItem, SomeMember, Holds, HoldItems, HoldMembers, IsScalar}
+use Rattle.gx_json.specs.Operators.{SomeItem, SomeMember, Covers, CoverItems, CoverMembers, IsScalar}
 use Rattle.gx_json.specs.Steps.{AreMembers, joined, AreBelow, Found}
 
 -- ---- the element at a place, and those behind it
@@ -27,15 +27,15 @@ members_split ps i p within is =
 
 -- ---- arrays
 
-pub hold_no_item : (vs all left more : Items) (q : Data) → left ≡ item q more → (HoldItems vs all ↔ HoldItems vs left) → (SomeItem (λ v. Holds v q) vs → ⊥) → HoldItems vs all → ⊥
-hold_no_item vs all left more q is same none h = none (subst (HoldItems vs) is (same.0 h)).0
+pub hold_no_item : (vs all left more : Items) (q : Data) → left ≡ item q more → (CoverItems vs all ↔ CoverItems vs left) → (SomeItem (λ v. Covers v q) vs → ⊥) → CoverItems vs all → ⊥
+hold_no_item vs all left more q is same none h = none (subst (CoverItems vs) is (same.0 h)).0
 
-pub hold_more_items : (vs all left more : Items) (q : Data) → left ≡ item q more → (HoldItems vs all ↔ HoldItems vs left) → SomeItem (λ v. Holds v q) vs → HoldItems vs all ↔ HoldItems vs more
-hold_more_items vs all left more q is same some = (λ h. (subst (HoldItems vs) is (same.0 h)).1, λ h. same.1 (subst (HoldItems vs) (sym is) (some, h)))
+pub hold_more_items : (vs all left more : Items) (q : Data) → left ≡ item q more → (CoverItems vs all ↔ CoverItems vs left) → SomeItem (λ v. Covers v q) vs → CoverItems vs all ↔ CoverItems vs more
+hold_more_items vs all left more q is same some = (λ h. (subst (CoverItems vs) is (same.0 h)).1, λ h. same.1 (subst (CoverItems vs) (sym is) (some, h)))
 
 -- ---- keys
 
-same_key : (k l : List ℕ) → slice_cmp nat_cmp k l ≡ Equal → k ≡ l
+pub same_key : (k l : List ℕ) → slice_cmp nat_cmp k l ≡ Equal → k ≡ l
 same_key k l is = (bytes_eq-Decides k l).0 (sym (is_eq-slice_cmp k l) ∙ ap is_eq is)
 
 not_below : (k l : List ℕ) → IsBelow k l → k ≡ l → ⊥
@@ -152,31 +152,31 @@ behind_found key ms rest d l P found below some =
       | inr x ↦ x
     ]
 
-hold_behind : (key : List ℕ) (ms rest : Members) (d : Data) (qs : Members) → Found key ms d rest → IsBelowAll key qs → HoldMembers ms qs → HoldMembers rest qs
+hold_behind : (key : List ℕ) (ms rest : Members) (d : Data) (qs : Members) → Found key ms d rest → IsBelowAll key qs → CoverMembers ms qs → CoverMembers rest qs
 hold_behind key ms rest d no_members found above h = tt
 hold_behind key ms rest d (member l q qs) found above h =
-    (behind_found key ms rest d l (λ v. Holds v q) found above.0 h.0, hold_behind key ms rest d qs found above.1 h.1)
+    (behind_found key ms rest d l (λ v. Covers v q) found above.0 h.0, hold_behind key ms rest d qs found above.1 h.1)
 
-hold_before : (key : List ℕ) (ms rest : Members) (d : Data) (qs : Members) → Found key ms d rest → HoldMembers rest qs → HoldMembers ms qs
+hold_before : (key : List ℕ) (ms rest : Members) (d : Data) (qs : Members) → Found key ms d rest → CoverMembers rest qs → CoverMembers ms qs
 hold_before key ms rest d no_members found h = tt
 hold_before key ms rest d (member l q qs) found h =
-    (subst (SomeMember l (λ v. Holds v q)) (sym found.parts) (some_before found.before (member key d rest) l (λ v. Holds v q) (inr h.0)), hold_before key ms rest d qs found h.1)
+    (subst (SomeMember l (λ v. Covers v q)) (sym found.parts) (some_before found.before (member key d rest) l (λ v. Covers v q) (inr h.0)), hold_before key ms rest d qs found h.1)
 
-pub hold_no_member : (pairs others ms left more : Members) (key : List ℕ) (q : Data) → (HoldMembers pairs others ↔ HoldMembers ms left) → left ≡ member key q more → (SomeMember key (λ _. Unit {0}) ms → ⊥) → HoldMembers pairs others → ⊥
-hold_no_member pairs others ms left more key q same split none h = none (some_any ms key (λ v. Holds v q) (subst (HoldMembers ms) split (same.0 h)).0)
+pub hold_no_member : (pairs others ms left more : Members) (key : List ℕ) (q : Data) → (CoverMembers pairs others ↔ CoverMembers ms left) → left ≡ member key q more → (SomeMember key (λ _. Unit {0}) ms → ⊥) → CoverMembers pairs others → ⊥
+hold_no_member pairs others ms left more key q same split none h = none (some_any ms key (λ v. Covers v q) (subst (CoverMembers ms) split (same.0 h)).0)
 
-pub hold_other_member : (pairs others ms left more rest : Members) (key : List ℕ) (q d : Data) → (HoldMembers pairs others ↔ HoldMembers ms left) → left ≡ member key q more → AreMembers ms → Found key ms d rest
-    → (Holds d q → ⊥) → HoldMembers pairs others → ⊥
+pub hold_other_member : (pairs others ms left more rest : Members) (key : List ℕ) (q d : Data) → (CoverMembers pairs others ↔ CoverMembers ms left) → left ≡ member key q more → AreMembers ms → Found key ms d rest
+    → (Covers d q → ⊥) → CoverMembers pairs others → ⊥
 hold_other_member pairs others ms left more rest key q d same split are found other h =
-    other (found_is key ms rest d (λ v. Holds v q) are found (subst (HoldMembers ms) split (same.0 h)).0)
+    other (found_is key ms rest d (λ v. Covers v q) are found (subst (CoverMembers ms) split (same.0 h)).0)
 
-pub hold_more_members : (pairs others ms left more rest : Members) (key : List ℕ) (q d : Data) → (HoldMembers pairs others ↔ HoldMembers ms left) → left ≡ member key q more → IsRising left → Found key ms d rest → Holds d q
-    → HoldMembers pairs others ↔ HoldMembers rest more
+pub hold_more_members : (pairs others ms left more rest : Members) (key : List ℕ) (q d : Data) → (CoverMembers pairs others ↔ CoverMembers ms left) → left ≡ member key q more → IsRising left → Found key ms d rest → Covers d q
+    → CoverMembers pairs others ↔ CoverMembers rest more
 hold_more_members pairs others ms left more rest key q d same split rising found holds =
     let above : IsBelowAll key more = (subst IsRising split rising).0 in (
-      λ h. hold_behind key ms rest d more found above (subst (HoldMembers ms) split (same.0 h)).1,
-      λ h. same.1 (subst (HoldMembers ms) (sym split) (
-        subst (SomeMember key (λ v. Holds v q)) (sym found.parts) (some_before found.before (member key d rest) key (λ v. Holds v q) (inl (refl, holds))),
+      λ h. hold_behind key ms rest d more found above (subst (CoverMembers ms) split (same.0 h)).1,
+      λ h. same.1 (subst (CoverMembers ms) (sym split) (
+        subst (SomeMember key (λ v. Covers v q)) (sym found.parts) (some_before found.before (member key d rest) key (λ v. Covers v q) (inl (refl, holds))),
         hold_before key ms rest d more found h,
       )),
     )
@@ -205,8 +205,8 @@ scalar_in b v q vs is same = (
   λ h. same.1 (h.0, subst (SomeItem (λ d. d ≡ q)) (same_items h.1.0 vs (sym h.1.1 ∙ is)) h.1.2),
 )
 
-pub objects_held : (b : Bool) (v q : Data) (vs qs : Members) → v ≡ object vs → q ≡ object qs → (IsTrue b ↔ HoldMembers vs qs) → IsTrue b ↔ Holds v q
-objects_held b v q vs qs is other same = subst (λ (d : Data). IsTrue b ↔ Holds v d) (sym other) (
+pub objects_held : (b : Bool) (v q : Data) (vs qs : Members) → v ≡ object vs → q ≡ object qs → (IsTrue b ↔ CoverMembers vs qs) → IsTrue b ↔ Covers v q
+objects_held b v q vs qs is other same = subst (λ (d : Data). IsTrue b ↔ Covers v d) (sym other) (
   λ t. (vs, is, same.0 t),
-  λ h. same.1 (subst (λ (ms : Members). HoldMembers ms qs) (same_members h.0 vs (sym h.1 ∙ is)) h.2),
+  λ h. same.1 (subst (λ (ms : Members). CoverMembers ms qs) (same_members h.0 vs (sym h.1 ∙ is)) h.2),
 )

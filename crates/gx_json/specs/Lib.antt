@@ -7,4 +7,5 @@ pub mod Keys
 pub mod Text
 pub mod Print
 pub mod Operators
+pub mod Decisions
 pub mod Steps

@@ -2,20 +2,18 @@
 #![tactic(auto)]
 
 mod convert;
+mod copy;
 mod document;
-mod encode;
-mod law;
+mod encoding;
+mod laws;
 mod operators;
 mod print;
-mod read;
+mod quoted;
 mod scan;
 mod text;
 
 pub use document::{Json, JsonList, JsonPairs};
-pub use encode::one_encoding;
-pub use law::{last_of_equal_keys, longest_runs, one_order, one_reading};
-pub use print::printed_again;
-pub use read::one_answer;
-
-#[cfg(test)]
-mod tests;
+pub use laws::{
+    decided, last_of_equal_keys, longest_runs, one_answer, one_encoding, one_order, one_reading,
+    printed_again,
+};

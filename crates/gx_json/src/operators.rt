@@ -1,9 +1,10 @@
 //! The operators.
 
-ghost use Rattle.std.specs.Prelude.{◌≡◌, IsTrue, ◌↔◌, MatchOption};
+ghost use Rattle.std.specs.Prelude.{◌≡◌, All, Any, IsTrue, ◌↔◌, MatchOption};
 ghost use Rattle.gx_json.specs.Tree.{data_of, items_data, members_data};
-ghost use Rattle.gx_json.specs.Operators.{HasKey, SomeItem, SomeMember, Holds, HoldItems, HoldMembers, IsScalar, Contains};
-ghost use Rattle.gx_json.specs.Valid.{IsStored, AreStored, IsDocument};
+ghost use Rattle.gx_json.specs.Operators.{HasKey, SomeItem, SomeMember, Covers, CoverItems, CoverMembers, IsScalar, ContainsDocument, Contains, Has, HasAll, HasAny, Holds};
+ghost use Rattle.gx_json.specs.Decisions.{holds};
+ghost use Rattle.gx_json.specs.Valid.{IsStored, AreStored, IsRising, IsDocument};
 ghost use Rattle.gx_json.specs.Steps.{AreMembers, Found};
 ghost use Rattle.serde_json.specs.Data.{string, array, Items};
 
@@ -12,27 +13,82 @@ use gx_bytes::Bytes;
 use std::cmp::Ordering;
 
 impl Json {
-    /// Whether this holds the other document (`@>`): a scalar an equal one; an array some element for each of
-    /// the other's, which holds it; an object each key of the other, with a value that holds the other's. An
-    /// array also holds a scalar that is one of its elements, where the array isn't itself in another.
+    /// Whether this contains the other document (`@>`): a scalar an equal one; an array some element for each of
+    /// the other's, which covers it; an object each key of the other, with a value that covers the other's. An
+    /// array also contains a scalar that is one of its elements, where the array isn't itself in another.
     pub fn contains(&self, other: &Json) -> bool
         requires this_is { IsDocument (data_of self.now) }
         requires other_is { IsDocument (data_of other.now) }
-        ensures { IsTrue result ↔ Contains (data_of self.now) (data_of other.now) }
+        ensures relation { IsTrue result ↔ Holds (Contains (data_of other.now)) (data_of self.now) }
+        ensures decision { result ≡ holds (Contains (data_of other.now)) (data_of self.now) }
     {
-        is_held(other, self) || has_scalar(self, other)
+        is_contained(other, self)
     }
 
     /// Whether this is an object with this key, an array with this text as an element, or this text (`?`).
     pub fn has_key(&self, key: &[u8]) -> bool
-        ensures { IsTrue result ↔ HasKey key.now (data_of self.now) }
+        requires { IsDocument (data_of self.now) }
+        ensures relation { IsTrue result ↔ Holds (Has key.now) (data_of self.now) }
+        ensures decision { result ≡ holds (Has key.now) (data_of self.now) }
     {
-        match self {
-            Json::Text(text) => text.as_slice() == key,
-            Json::List(list) => has_text(&list.items, key),
-            Json::Object(pairs) => has_pair(&pairs.items, key),
-            _ => false,
+        is_key(self, key)
+    }
+
+    /// Whether this has all of the keys, as [`Json::has_key`] says (`?&`).
+    pub fn has_all(&self, keys: &[Bytes]) -> bool
+        requires { IsDocument (data_of self.now) }
+        ensures relation { IsTrue result ↔ Holds (HasAll keys.now) (data_of self.now) }
+        ensures decision { result ≡ holds (HasAll keys.now) (data_of self.now) }
+    {
+        are_keys(self, keys)
+    }
+
+    /// Whether this has some of the keys, as [`Json::has_key`] says (`?|`).
+    pub fn has_any(&self, keys: &[Bytes]) -> bool
+        requires { IsDocument (data_of self.now) }
+        ensures relation { IsTrue result ↔ Holds (HasAny keys.now) (data_of self.now) }
+        ensures decision { result ≡ holds (HasAny keys.now) (data_of self.now) }
+    {
+        is_one_key(self, keys)
+    }
+}
+
+fn is_contained(other: &Json, value: &Json) -> bool
+    requires other_is { IsStored (data_of other.now) }
+    requires value_is { IsStored (data_of value.now) }
+    ensures { IsTrue result ↔ ContainsDocument (data_of value.now) (data_of other.now) }
+{
+    is_held(other, value) || has_scalar(value, other)
+}
+
+fn are_keys(value: &Json, keys: &[Bytes]) -> bool
+    requires { IsStored (data_of value.now) }
+    ensures { IsTrue result ↔ All (λ key. HasKey key (data_of value.now)) keys.now }
+{
+    for key in keys {
+        if !is_key(value, key.as_slice()) {
+            return false;
         }
+    }
+    true
+}
+
+fn is_one_key(value: &Json, keys: &[Bytes]) -> bool
+    requires { IsStored (data_of value.now) }
+    ensures { IsTrue result ↔ Any (λ key. HasKey key (data_of value.now)) keys.now }
+{
+    keys.iter().any(|key| is_key(value, key.as_slice()))
+}
+
+fn is_key(value: &Json, key: &[u8]) -> bool
+    requires { IsStored (data_of value.now) }
+    ensures { IsTrue result ↔ HasKey key.now (data_of value.now) }
+{
+    match value {
+        Json::Text(text) => text.as_slice() == key,
+        Json::List(list) => has_text(&list.items, key),
+        Json::Object(pairs) => has_pair(&pairs.items, key),
+        _ => false,
     }
 }
 
@@ -56,15 +112,15 @@ fn is_text(value: &Json, key: &[u8]) -> bool
     }
 }
 
+/// The keys rise, so each step halves those that are left.
 fn has_pair(pairs: &[(Bytes, Json)], key: &[u8]) -> bool
+    requires { IsRising (members_data pairs.now) }
     ensures { IsTrue result ↔ SomeMember key.now (λ _. Unit {0}) (members_data pairs.now) }
 {
-    for pair in pairs {
-        if pair.0.as_slice() == key {
-            return true;
-        }
+    match pairs.binary_search_by(|pair| pair.0.as_slice().cmp(key)) {
+        Ok(_) => true,
+        Err(_) => false,
     }
-    false
 }
 
 /// Whether the value is an array with the other, a scalar, as an element.
@@ -100,12 +156,12 @@ fn equal_scalars(a: &Json, b: &Json) -> bool
     }
 }
 
-/// Whether the value holds the other.
+/// Whether the value covers the other.
 #[cycle(held)]
 fn is_held(other: &Json, value: &Json) -> bool
     requires other_is { IsStored (data_of other.now) }
     requires value_is { IsStored (data_of value.now) }
-    ensures { IsTrue result ↔ Holds (data_of value.now) (data_of other.now) }
+    ensures { IsTrue result ↔ Covers (data_of value.now) (data_of other.now) }
 {
     match (other, value) {
         (Json::List(others), Json::List(list)) => are_held(&others.items, &list.items),
@@ -118,7 +174,7 @@ fn is_held(other: &Json, value: &Json) -> bool
 fn are_held(others: &[Json], items: &[Json]) -> bool
     requires others_are { AreStored (items_data others.now) }
     requires items_are { AreStored (items_data items.now) }
-    ensures { IsTrue result ↔ HoldItems (items_data items.now) (items_data others.now) }
+    ensures { IsTrue result ↔ CoverItems (items_data items.now) (items_data others.now) }
 {
     for other in others {
         if !is_held_by_some(other, items) {
@@ -132,7 +188,7 @@ fn are_held(others: &[Json], items: &[Json]) -> bool
 fn is_held_by_some(other: &Json, items: &[Json]) -> bool
     requires other_is { IsStored (data_of other.now) }
     requires items_are { AreStored (items_data items.now) }
-    ensures { IsTrue result ↔ SomeItem (λ v. Holds v (data_of other.now)) (items_data items.now) }
+    ensures { IsTrue result ↔ SomeItem (λ v. Covers v (data_of other.now)) (items_data items.now) }
 {
     for item in items {
         if is_held(other, item) {
@@ -147,7 +203,7 @@ fn is_held_by_some(other: &Json, items: &[Json]) -> bool
 fn pairs_held(others: &[(Bytes, Json)], pairs: &[(Bytes, Json)]) -> bool
     requires others_are { AreMembers (members_data others.now) }
     requires pairs_are { AreMembers (members_data pairs.now) }
-    ensures { IsTrue result ↔ HoldMembers (members_data pairs.now) (members_data others.now) }
+    ensures { IsTrue result ↔ CoverMembers (members_data pairs.now) (members_data others.now) }
 {
     let mut rest = pairs;
     for other in others {

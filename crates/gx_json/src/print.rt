@@ -1,14 +1,12 @@
 //! The printed text of a document.
 
-ghost use Rattle.std.specs.Prelude.{◌≡◌, ◌++◌, OnOk, IfOk, map, IsPermutation, Ok};
-ghost use Rattle.serde_json.specs.Data.{Data, array, object};
+ghost use Rattle.std.specs.Prelude.{◌≡◌, ◌++◌, OnOk, IfOk, map, IsPermutation};
+ghost use Rattle.serde_json.specs.Data.{array, object};
 ghost use Rattle.gx_json.specs.Tree.{data_of, items_data, members_data};
-ghost use Rattle.gx_json.specs.Valid.{IsDocument};
-ghost use Rattle.gx_json.specs.Text.{AnswersJson};
 ghost use Rattle.gx_json.specs.Print.{printed, separator, shorter_first, entries_of};
 
 use crate::document::Json;
-use crate::text::push_quoted;
+use crate::quoted::push_quoted;
 use gx_bytes::{Bytes, NoMemory, print_whole};
 use std::alloc::Global;
 
@@ -20,11 +18,6 @@ impl Json {
         print_value(self, to)
     }
 }
-
-/// The printed text of a document is read as that document.
-pub fn printed_again()
-    ensures { (d : Data) → IsDocument d → AnswersJson (printed d) (Ok d) }
-{}
 
 #[cycle(print)]
 fn print_value(value: &Json, to: &mut Bytes) -> Result<(), NoMemory>

@@ -1,75 +1,46 @@
-//! The texts of scalars.
+//! The reader of texts.
 
-ghost use Rattle.std.specs.Prelude.{◌≡◌, ◌<◌, ◌++◌, OnOk};
-ghost use Rattle.std.specs.Char.{digit_char};
-ghost use Rattle.json.specs.Print.{escape_letter, escape_byte, escape, quoted};
+ghost use Rattle.std.specs.Prelude.{◌≡◌, ◌≢◌, Ok, Err, None, Some, MatchResult, IfOk};
+ghost use Rattle.serde_json.specs.Read.{read};
+ghost use Rattle.serde_json.specs.View.{view};
+ghost use Rattle.gx_json.specs.Tree.{data_of};
+ghost use Rattle.gx_json.specs.Valid.{IsDocument};
+ghost use Rattle.gx_json.specs.Text.{AnswersJson};
 
-use gx_bytes::{Bytes, NoMemory};
+use crate::convert::document_of;
+use crate::document::Json;
+use crate::scan::check_text;
+use gx_bytes::ValueError;
+use serde_json::Value;
+use std::alloc::Global;
 
-/// Appends the text in quotes. A quote and a backslash have a backslash before them, and so have the letters
-/// for backspace, form feed, line feed, carriage return and tab; other bytes below a space are written as
-/// `\u00` and two digits.
-pub(crate) fn push_quoted(text: &[u8], to: &mut Bytes) -> Result<(), NoMemory>
-    ensures { OnOk result (to.new ≡ to.old ++ quoted text.now) }
-{
-    to.push(b'"')?;
-    push_escaped(text, to)?;
-    to.push(b'"')?;
-    Ok(())
-}
-
-fn push_escaped(text: &[u8], to: &mut Bytes) -> Result<(), NoMemory>
-    ensures { OnOk result (to.new ≡ to.old ++ escape text.now) }
-{
-    for byte in text {
-        push_byte(*byte, to)?;
-    }
-    Ok(())
-}
-
-fn push_byte(byte: u8, to: &mut Bytes) -> Result<(), NoMemory>
-    ensures { OnOk result (to.new ≡ to.old ++ escape_byte byte) }
-{
-    let letter = escape_letter(byte);
-    if letter > 0 {
-        to.extend_from_slice(&[b'\\', letter])?;
-    } else if byte < b' ' {
-        to.extend_from_slice(&[
-            b'\\',
-            b'u',
-            b'0',
-            b'0',
-            hex_digit(byte / 16),
-            hex_digit(byte % 16),
-        ])?;
-    } else {
-        to.push(byte)?;
-    }
-    Ok(())
-}
-
-/// What stands behind the backslash, or 0 where the byte is written in another way.
-fn escape_letter(byte: u8) -> u8
-    ensures { result ≡ escape_letter byte }
-{
-    match byte {
-        b'"' | b'\\' => byte,
-        0x08 => b'b',
-        0x0c => b'f',
-        b'\n' => b'n',
-        b'\r' => b'r',
-        b'\t' => b't',
-        _ => 0,
+impl Json {
+    /// Reads a document. The fault is that of the first of these checks that fails. Outside strings at most 64
+    /// brackets stand open, else TooDeep; each number is written as a whole one, without leading zeros and with
+    /// `-` alone as a sign, else NoValue, and has 64 bits, else OutOfRange. `serde_json` reads a value, else
+    /// NoValue; at most 64 arrays and objects stand in one another, else TooDeep; its numbers have 64 bits, else
+    /// OutOfRange; and no text or key of it holds U+0000, else NoValue.
+    pub fn read(alloc: Global, text: &str) -> Result<Json, ValueError>
+        ensures answer { MatchResult result (λ j. AnswersJson text.now (Ok (data_of j))) (λ e. AnswersJson text.now (Err e)) }
+        ensures valid { IfOk result (λ j. IsDocument (data_of j)) }
+    {
+        check_text(alloc, text.as_bytes())?;
+        let value = parsed(alloc, text)?;
+        document_of(alloc, &value)
     }
 }
 
-fn hex_digit(value: u8) -> u8
-    requires { value < 16 }
-    ensures { result ≡ digit_char value }
+fn parsed(alloc: Global, text: &str) -> Result<Value, ValueError>
+    ensures { MatchResult result (λ v. read text.now ≡ Some (view v)) (λ e. e ≢ ValueError.Memory → (e ≡ ValueError.NoValue) × (read text.now ≡ None)) }
 {
-    if value < 10 {
-        b'0' + value
-    } else {
-        b'a' + (value - 10)
+    match Value::from_str(alloc, text) {
+        Ok(value) => Ok(value),
+        Err(fault) => {
+            if fault.is_memory() {
+                Err(ValueError::Memory)
+            } else {
+                Err(ValueError::NoValue)
+            }
+        }
     }
 }

@@ -5,3 +5,5 @@ mod Step
 mod Rows
 mod SplitLemmas
 mod TextLemmas
+mod ValidLemmas
+pub mod TestLemmas

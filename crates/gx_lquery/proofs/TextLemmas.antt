@@ -4,6 +4,7 @@ use Rattle.std.specs.List.{AllByRecursion, list_any}
 use Rattle.gx_bytes.specs.declared.error.ValueError.{ValueError}
 use Rattle.gx_bytes.specs.declared.error.ValueError.TheVariants.{NoValue, OutOfRange, TooDeep, Memory}
 use Rattle.gx_ltree.specs.Label.{TakesLabel}
+use Rattle.gx_bytes.proofs.SingleAnswers.{IsSingle}
 use Rattle.gx_ltree.proofs.LabelLemmas.{one_label}
 use Rattle.gx_lquery.specs.declared.variant.Variant.{Variant}
 use Rattle.gx_lquery.specs.declared.query.LqueryItem.{LqueryItem}
@@ -90,17 +91,16 @@ one_item text x y s t = one_parts (cut 123 text) text x y s t
 one_query : (text : List ℕ) (q p : Lquery) → SpellsLquery text q → SpellsLquery text p → q ≡ p
 one_query text q p s t = let items = one_zip SpellsItem one_item (split 46 text) q.items p.items s t in λ i. record { items = items i }
 
-pub same_answer : (text : List ℕ) (r s : Result Lquery ValueError) → r ≢ Err Memory → s ≢ Err Memory → AnswersLquery text r → AnswersLquery text s → r ≡ s
-same_answer text (Ok a) (Ok b) m n p q = ap Ok (one_query text a b p q)
-same_answer text (Ok a) (Err NoValue) m n p q = absurd (q a p)
-same_answer text (Err NoValue) (Ok b) m n p q = absurd (p b q)
-same_answer text (Err NoValue) (Err NoValue) m n p q = refl
-same_answer text (Err OutOfRange) s m n p q = absurd p
-same_answer text (Err TooDeep) s m n p q = absurd p
-same_answer text (Err Memory) s m n p q = absurd (m refl)
-same_answer text r (Err OutOfRange) m n p q = absurd q
-same_answer text r (Err TooDeep) m n p q = absurd q
-same_answer text r (Err Memory) m n p q = absurd (n refl)
+pub single : (text : List ℕ) → IsSingle (AnswersLquery text)
+single text = record {
+  one = one_query text;
+  no_value = λ query s none. none query s;
+  out_of_range = λ query s out. out;
+  too_deep = λ query s deep. deep;
+  none_or_out = λ none out. out;
+  none_or_deep = λ none deep. deep;
+  out_or_deep = λ out deep. out;
+}
 
 -- an answer by what was cut
 pub limits_by : (q p : Option (List ℕ × List ℕ)) (text : List ℕ) (r : Option (ℕ × Option ℕ)) → q ≡ p

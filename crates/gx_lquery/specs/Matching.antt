@@ -4,6 +4,7 @@ use Rattle.std.specs.List.{AllZip, flat_map}
 use Rattle.std.specs.Char.{to_ascii_lowercase}
 use Rattle.gx_lquery.specs.declared.variant.Variant.{Variant}
 use Rattle.gx_lquery.specs.declared.query.LqueryItem.{LqueryItem}
+use Rattle.gx_lquery.specs.declared.query.Lquery.{Lquery}
 
 -- the letters as they are compared
 abbrev pub folded : Bool → List ℕ → List ℕ
@@ -47,3 +48,7 @@ pub record MatchesPath (items : List LqueryItem) (path : List (List ℕ)) : Type
   pub groups : List (List (List ℕ))
   pub joined : path ≡ flat_map (λ group. group) groups
   pub fits : AllZip FitsItem items groups
+
+-- the path matches some of the queries
+abbrev pub MatchesAny : List Lquery → List (List ℕ) → Type 0
+MatchesAny queries path = Any (λ query. MatchesPath query.items path) queries

@@ -1,14 +1,12 @@
 //! Queries over label paths: lquery.
 #![tactic(auto)]
 
-mod matching;
+mod laws;
+mod operators;
 mod query;
-mod read;
+mod text;
 mod variant;
 
+pub use laws::{matching_decided, one_answer, spelled_is_valid};
 pub use query::{Lqueries, Lquery, LqueryItem, LqueryItems};
-pub use read::one_answer;
 pub use variant::{Variant, Variants};
-
-#[cfg(test)]
-mod tests;

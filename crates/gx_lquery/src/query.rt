@@ -1,6 +1,6 @@
 //! A query: a list of items.
 
-ghost use Rattle.std.specs.Prelude.{◌≡◌, ◌++◌, ◌∷◌, [], OnOk, OnErr};
+ghost use Rattle.std.specs.Prelude.{◌≡◌, ◌++◌, ◌∷◌, [], IfOk, OnOk, OnErr};
 
 use crate::variant::Variants;
 use gx_bytes::NoMemory;
@@ -18,6 +18,21 @@ pub struct LqueryItem {
     pub variants: Variants,
     pub least: u16,
     pub most: Option<u16>,
+}
+
+impl LqueryItem {
+    /// A copy of the item.
+    pub fn copy(&self, alloc: Global) -> Result<LqueryItem, NoMemory>
+        ensures { IfOk result (λ copy. copy ≡ self.now) }
+    {
+        Ok(LqueryItem {
+            star: self.star,
+            negated: self.negated,
+            variants: self.variants.copy(alloc)?,
+            least: self.least,
+            most: self.most,
+        })
+    }
 }
 
 /// A list of items.
@@ -59,12 +74,34 @@ impl LqueryItems {
     {
         self.items.as_slice()
     }
+
+    /// A copy of the list.
+    pub fn copy(&self, alloc: Global) -> Result<LqueryItems, NoMemory>
+        ensures { IfOk result (λ copy. copy ≡ self.now) }
+    {
+        let mut copy = LqueryItems::new(alloc);
+        for item in self.as_slice() {
+            copy.push(item.copy(alloc)?)?;
+        }
+        Ok(copy)
+    }
 }
 
 /// A query over label paths.
 #[derive(Debug, Drop)]
 pub struct Lquery {
     pub items: LqueryItems,
+}
+
+impl Lquery {
+    /// A copy of the query.
+    pub fn copy(&self, alloc: Global) -> Result<Lquery, NoMemory>
+        ensures { IfOk result (λ copy. copy ≡ self.now) }
+    {
+        Ok(Lquery {
+            items: self.items.copy(alloc)?,
+        })
+    }
 }
 
 /// A list of queries.
@@ -105,5 +142,16 @@ impl Lqueries {
         ensures { result.now ≡ self.now }
     {
         self.items.as_slice()
+    }
+
+    /// A copy of the list.
+    pub fn copy(&self, alloc: Global) -> Result<Lqueries, NoMemory>
+        ensures { IfOk result (λ copy. copy ≡ self.now) }
+    {
+        let mut copy = Lqueries::new(alloc);
+        for query in self.as_slice() {
+            copy.push(query.copy(alloc)?)?;
+        }
+        Ok(copy)
     }
 }

@@ -1,6 +1,6 @@
 //! One word of a query, and whether a label matches it.
 
-ghost use Rattle.std.specs.Prelude.{◌≡◌, ◌++◌, ◌∷◌, [], OnOk, OnErr, IsTrue, ◌↔◌};
+ghost use Rattle.std.specs.Prelude.{◌≡◌, ◌++◌, ◌∷◌, [], IfOk, OnOk, OnErr, IsTrue, ◌↔◌};
 ghost use Rattle.gx_lquery.specs.Matching.{folded, MatchesVariant};
 
 use gx_bytes::{Bytes, NoMemory};
@@ -55,6 +55,17 @@ impl Variants {
     {
         self.items.as_slice()
     }
+
+    /// A copy of the list.
+    pub fn copy(&self, alloc: Global) -> Result<Variants, NoMemory>
+        ensures { IfOk result (λ copy. copy ≡ self.now) }
+    {
+        let mut copy = Variants::new(alloc);
+        for variant in self.as_slice() {
+            copy.push(variant.copy(alloc)?)?;
+        }
+        Ok(copy)
+    }
 }
 
 impl Variant {
@@ -63,6 +74,17 @@ impl Variant {
         ensures { IsTrue result ↔ MatchesVariant self.now label.now }
     {
         variant_matches(self, label)
+    }
+
+    /// A copy of the variant.
+    pub fn copy(&self, alloc: Global) -> Result<Variant, NoMemory>
+        ensures { IfOk result (λ copy. copy ≡ self.now) }
+    {
+        Ok(Variant {
+            label: self.label.copy(alloc)?,
+            prefix: self.prefix,
+            caseless: self.caseless,
+        })
     }
 }
 

@@ -2,3 +2,4 @@ pub mod LabelLemmas
 pub mod TextLemmas
 pub mod Progress
 mod ListSteps
+pub mod OperatorLemmas

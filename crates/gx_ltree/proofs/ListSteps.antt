@@ -2,7 +2,7 @@
 use Rattle.std.proofs.Common.{◌≡◌, ◌==◌, ℕ, suc, ◌-◌, ◌<◌, ◌≤◌, Bool, true, false, not, bytes_eq, List, [], ◌∷◌, ◌++◌, length, get_or, take, drop, Result, is_ok, OnOk, ◌↔◌, refl, sym, ap, ap₂, ◌∙◌, arith, true≢false, ne_eqb, Ok, Err}
 use Rattle.std.proofs.lemmas.List.{take_all}
 use Rattle.std.proofs.lemmas.Slice.Eq.{bytes_eq-Decides}
-use Rattle.gx_ltree.specs.Path.{IsPrefix}
+use Rattle.gx_ltree.specs.Operators.{IsPrefix}
 use Rattle.gx_ltree.specs.Text.{printed, dots}
 use Rattle.gx_ltree.proofs.TextLemmas.{printed_parts}
 

@@ -5,6 +5,7 @@ use Rattle.gx_bytes.specs.declared.error.ValueError.{ValueError}
 use Rattle.gx_bytes.specs.declared.error.ValueError.TheVariants.{NoValue, OutOfRange, TooDeep, Memory}
 use Rattle.gx_ltree.specs.Label.{IsLabel, StopsLabel, TakesLabel}
 use Rattle.gx_ltree.specs.Text.{printed, dots, SpellsPath, HasTooMany, AnswersPath}
+use Rattle.gx_bytes.proofs.SingleAnswers.{IsSingle}
 use Rattle.gx_ltree.proofs.LabelLemmas.{one_run, one_label, AllByRecursion-append}
 
 pub printed_parts : (label : List ℕ) (more : List (List ℕ)) → printed (label ∷ more) ≡ label ++ dots more
@@ -203,20 +204,16 @@ one_path text a b s t = go a b s.valid.labels t.valid.labels (sym s.is ∙ t.is)
     go (x ∷ a) [] p q e = absurd (omega (arith, p.0.some, ap length (sym e ∙ printed_parts x a), length-append x (dots a)))
     go (x ∷ a) (y ∷ b) p q e = dots_one (x ∷ a) (y ∷ b) p q (ap (λ (t : List ℕ). 46 ∷ t) (sym (printed_parts x a) ∙ e ∙ printed_parts y b))
 
-pub same_answer : (text : List ℕ) (r s : Result (List (List ℕ)) ValueError) → r ≢ Err Memory → s ≢ Err Memory → AnswersPath text r → AnswersPath text s → r ≡ s
-same_answer text (Ok a) (Ok b) m n p q = ap Ok (one_path text a b p q)
-same_answer text (Ok a) (Err NoValue) m n p q = absurd (q.0 a p)
-same_answer text (Ok a) (Err OutOfRange) m n p q = absurd (not_both text a p q)
-same_answer text (Err NoValue) (Ok b) m n p q = absurd (p.0 b q)
-same_answer text (Err NoValue) (Err NoValue) m n p q = refl
-same_answer text (Err NoValue) (Err OutOfRange) m n p q = absurd (p.1 q)
-same_answer text (Err OutOfRange) (Ok b) m n p q = absurd (not_both text b q p)
-same_answer text (Err OutOfRange) (Err NoValue) m n p q = absurd (q.1 p)
-same_answer text (Err OutOfRange) (Err OutOfRange) m n p q = refl
-same_answer text (Err TooDeep) s m n p q = absurd p
-same_answer text (Err Memory) s m n p q = absurd (m refl)
-same_answer text r (Err TooDeep) m n p q = absurd q
-same_answer text r (Err Memory) m n p q = absurd (n refl)
+pub single : (text : List ℕ) → IsSingle (AnswersPath text)
+single text = record {
+  one = one_path text;
+  no_value = λ path s none. none.0 path s;
+  out_of_range = not_both text;
+  too_deep = λ path s deep. absurd deep;
+  none_or_out = λ none many. none.1 many;
+  none_or_deep = λ none deep. deep;
+  out_or_deep = λ many deep. deep;
+}
 
 -- every answer but a path and the want of memory says that there is no path
 pub no_path : (text : List ℕ) (fault : ValueError) → AnswersPath text (Err fault) → fault ≢ Memory → (path : List (List ℕ)) → SpellsPath text path → ⊥

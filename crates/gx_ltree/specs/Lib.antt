@@ -1,3 +1,4 @@
 pub mod Label
 pub mod Path
 pub mod Text
+pub mod Operators

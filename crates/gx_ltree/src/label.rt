@@ -1,6 +1,6 @@
 //! Labels, as paths and their queries have them.
 
-ghost use Rattle.std.specs.Prelude.{◌≡◌, ◌≢◌, ◌≤◌, ℕ, List, ◌∷◌, MatchOption, length, take, drop};
+ghost use Rattle.std.specs.Prelude.{◌≡◌, ◌≤◌, ℕ, List, MatchOption, length, take, drop};
 ghost use Rattle.std.specs.List.{AllByRecursion};
 ghost use Rattle.gx_ltree.specs.Label.{is_label_byte, IsLabelByte, StopsLabel, TakesLabel};
 
@@ -37,14 +37,4 @@ fn run_length(text: &[u8]) -> usize
         length += 1;
     }
     length
-}
-
-/// What stands behind a byte at the front.
-pub fn behind_byte(text: &[u8], wanted: u8) -> Option<&[u8]>
-    ensures { MatchOption result ((rest : List ℕ) → text.now ≢ wanted ∷ rest) (λ rest. text.now ≡ wanted ∷ rest.now) }
-{
-    match text {
-        [first, rest @ ..] if *first == wanted => Some(rest),
-        _ => None,
-    }
 }

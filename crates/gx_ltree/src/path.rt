@@ -1,11 +1,9 @@
 //! A path.
 
-ghost use Rattle.std.specs.Prelude.{◌≡◌, ℕ, List, [], ◌∷◌, ◌++◌, length, OnOk, OnErr, option_map, slice_get, IsTrue, ◌↔◌};
-ghost use Rattle.gx_ltree.specs.Path.{order, IsPrefix};
+ghost use Rattle.std.specs.Prelude.{◌≡◌, ℕ, List, [], ◌∷◌, ◌++◌, length, IfOk, OnOk, OnErr, option_map, slice_get};
 
 use gx_bytes::{Bytes, NoMemory};
 use std::alloc::Global;
-use std::cmp::Ordering;
 use std::marker::Model;
 
 /// A list of labels. It keeps the allocator that it was made with.
@@ -59,64 +57,20 @@ impl Path {
     }
 
     /// The labels in order.
-    pub(crate) fn labels(&self) -> &[Bytes]
+    pub fn labels(&self) -> &[Bytes]
         ensures { result.now ≡ self.now }
     {
         self.labels.as_slice()
     }
 
-    /// The order of paths: label by label by bytes, a path before its extensions.
-    pub fn compare(&self, other: &Path) -> Ordering
-        ensures { result ≡ order self.now other.now }
+    /// A copy of the path.
+    pub fn copy(&self, alloc: Global) -> Result<Path, NoMemory>
+        ensures { IfOk result (λ path. path ≡ self.now) }
     {
-        compare_labels(self.labels.as_slice(), other.labels.as_slice())
-    }
-
-    /// Whether `other` begins with this path (`@>`).
-    pub fn above(&self, other: &Path) -> bool
-        ensures { IsTrue result ↔ IsPrefix self.now other.now }
-    {
-        begins_with(other.labels.as_slice(), self.labels.as_slice())
-    }
-}
-
-fn compare_labels(left: &[Bytes], right: &[Bytes]) -> Ordering
-    ensures { result ≡ order left.now right.now }
-{
-    let mut a = left;
-    let mut b = right;
-    while let [x, xs @ ..] = a {
-        let [y, ys @ ..] = b else {
-            return Ordering::Greater;
-        };
-        let first = x.as_slice().cmp(y.as_slice());
-        if first != Ordering::Equal {
-            return first;
+        let mut path = Path::new(alloc);
+        for label in self.labels() {
+            path.push(label.as_slice())?;
         }
-        a = xs;
-        b = ys;
+        Ok(path)
     }
-    if b.is_empty() {
-        Ordering::Equal
-    } else {
-        Ordering::Less
-    }
-}
-
-fn begins_with(path: &[Bytes], front: &[Bytes]) -> bool
-    ensures { IsTrue result ↔ IsPrefix front.now path.now }
-{
-    let mut a = front;
-    let mut b = path;
-    while let [x, xs @ ..] = a {
-        let [y, ys @ ..] = b else {
-            return false;
-        };
-        if x.as_slice() != y.as_slice() {
-            return false;
-        }
-        a = xs;
-        b = ys;
-    }
-    true
 }

@@ -1,8 +1,7 @@
-//! The text of a path, which is its encoding too.
+//! The printed text of a path.
 
-ghost use Rattle.std.specs.Prelude.{◌≡◌, ℕ, List, ◌++◌, OnOk};
-ghost use Rattle.gx_ltree.specs.Path.{IsPath};
-ghost use Rattle.gx_ltree.specs.Text.{printed, dots, SpellsPath};
+ghost use Rattle.std.specs.Prelude.{◌≡◌, ◌++◌, OnOk};
+ghost use Rattle.gx_ltree.specs.Text.{printed, dots};
 
 use crate::path::Path;
 use gx_bytes::{Bytes, NoMemory};
@@ -14,16 +13,9 @@ impl Path {
     {
         print_labels(self.labels(), to)
     }
-
-    /// Appends the bytes of the path in a row, which are its text.
-    pub fn encode(&self, to: &mut Bytes) -> Result<(), NoMemory>
-        ensures { OnOk result (to.new ≡ to.old ++ printed self.now) }
-    {
-        print_labels(self.labels(), to)
-    }
 }
 
-fn print_labels(labels: &[Bytes], to: &mut Bytes) -> Result<(), NoMemory>
+pub(crate) fn print_labels(labels: &[Bytes], to: &mut Bytes) -> Result<(), NoMemory>
     ensures { OnOk result (to.new ≡ to.old ++ printed labels.now) }
 {
     let [first, rest @ ..] = labels else {
@@ -43,8 +35,3 @@ fn print_more(labels: &[Bytes], to: &mut Bytes) -> Result<(), NoMemory>
     }
     Ok(())
 }
-
-/// The printed text of a path spells it.
-pub fn printed_again()
-    ensures { (path : List (List ℕ)) → IsPath path → SpellsPath (printed path) path }
-{}

@@ -1,3 +1,2 @@
-mod WordLemmas
-mod PieceLemmas
-mod TextLemmas
+pub mod WordLemmas
+pub mod LawLemmas

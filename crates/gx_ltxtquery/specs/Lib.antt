@@ -1,4 +1,5 @@
+pub mod Words
 pub mod Formula
-pub mod Pieces
 pub mod Text
-pub mod Lexing
+pub mod Operators
+pub mod Laws

@@ -1,12 +1,12 @@
-//! Formulas of words over the labels of a path: ltxtquery.
+//! Formulas of words over the labels of a path: ltxtquery; and all operators of ltree.
 #![tactic(auto)]
 
 mod formula;
-mod lexer;
-mod read;
+mod laws;
+mod operators;
+mod text;
+mod word;
 
 pub use formula::{Ltxtquery, WordFormula};
-pub use read::one_answer;
-
-#[cfg(test)]
-mod tests;
+pub use laws::{holds_decided, one_answer};
+pub use operators::LtreeQuery;

@@ -3,3 +3,4 @@ pub mod Bounds
 pub mod Texts
 pub mod Encodings
 pub mod Operators
+pub mod Decisions

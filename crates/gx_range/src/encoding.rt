@@ -1,6 +1,6 @@
 //! Ranges as bytes.
 
-ghost use Rattle.std.specs.Prelude.{◌≡◌, ◌++◌, ℕ, Bool, List, ℤ, Option, true, ◌&&◌, length, is_some, IfOk, IfSome, OnOk, MatchOption};
+ghost use Rattle.std.specs.Prelude.{◌≡◌, ◌++◌, ℕ, Bool, List, ℤ, Option, true, ◌&&◌, length, is_some, IfSome, OnOk, MatchOption, MatchResult};
 ghost use Rattle.gx_range.specs.declared.range.Range.{Range};
 ghost use Rattle.gx_range.specs.declared.range.RangeKind.{RangeKind};
 ghost use Rattle.gx_range.specs.declared.range.RangeKind.TheVariants as kinds;
@@ -31,16 +31,11 @@ impl Range {
 
     /// The valid range of that type with these bytes. No memory is taken, so it is never refused.
     pub fn decode(_alloc: Global, kind: RangeKind, bytes: &[u8]) -> Result<Option<Range>, NoMemory>
-        ensures { IfOk result (DecodesTo kind bytes.now) }
+        ensures { MatchResult result (DecodesTo kind bytes.now) (λ _. ⊥) }
     {
         Ok(decoded(kind, bytes))
     }
 }
-
-/// Two valid ranges of a type have different bytes.
-pub fn one_encoding()
-    ensures { (kind : RangeKind) (a b : Range) → IsRange kind a → IsRange kind b → encoded a ≡ encoded b → a ≡ b }
-{}
 
 fn flags_of(lower: bool, upper: bool) -> u8
     ensures { result ≡ flags lower upper }

@@ -3,14 +3,13 @@
 
 mod bounds;
 mod encoding;
+mod laws;
 mod operators;
+mod print;
 mod range;
 mod steps;
-#[cfg(test)]
-mod tests;
 mod text;
 
-pub use encoding::one_encoding;
+pub use laws::{decided, one_answer, one_encoding, printed_again};
 pub use operators::range_holds;
 pub use range::{Range, RangeKind, RangeOp};
-pub use text::{one_answer, printed_again};

@@ -2,14 +2,22 @@
 
 ghost use Rattle.std.specs.Prelude.{◌≡◌, ◌↔◌, IsTrue};
 ghost use Rattle.gx_range.specs.Operators.{IsAtMost, IsBefore, lower_place, upper_place, EndsBy, EndsAt, HoldsOfSpans, Holds, HasElement};
+ghost use Rattle.gx_range.specs.Decisions.{holds, has_element};
 
 use crate::{Range, RangeOp};
 
 /// Whether the operator holds of the two ranges.
 pub fn range_holds(op: RangeOp, a: &Range, b: &Range) -> bool
-    ensures { IsTrue result ↔ Holds op a.now b.now }
+    ensures relation { IsTrue result ↔ Holds op a.now b.now }
+    ensures decision { result ≡ holds op a.now b.now }
 {
-    match (*a, *b) {
+    holds_of(op, *a, *b)
+}
+
+fn holds_of(op: RangeOp, a: Range, b: Range) -> bool
+    ensures { IsTrue result ↔ Holds op a b }
+{
+    match (a, b) {
         (Range::Span { lower: l, upper: u }, Range::Span { lower: m, upper: v }) => holds_of_spans(
             op, l, u, m, v,
         ),
@@ -49,13 +57,20 @@ fn holds_of_spans(
 impl Range {
     /// Whether the element lies from the lower bound up to the upper, which is left out.
     pub fn has_element(&self, value: i64) -> bool
-        ensures { IsTrue result ↔ HasElement self.now value }
+        ensures relation { IsTrue result ↔ HasElement self.now value }
+        ensures decision { result ≡ has_element self.now value }
     {
-        match *self {
-            Range::Empty => false,
-            Range::Span { lower, upper } => {
-                lower_at_most(lower, Some(value)) && begins_before(Some(value), upper)
-            }
+        has_element(*self, value)
+    }
+}
+
+fn has_element(range: Range, value: i64) -> bool
+    ensures { IsTrue result ↔ HasElement range value }
+{
+    match range {
+        Range::Empty => false,
+        Range::Span { lower, upper } => {
+            lower_at_most(lower, Some(value)) && begins_before(Some(value), upper)
         }
     }
 }

@@ -27,34 +27,7 @@ impl Range {
         }
         whole_range(kind, core)
     }
-
-    /// Appends `empty`, or the bounds as `[1,5)`, with `(` where there is no lower bound.
-    pub fn print(&self, kind: RangeKind, to: &mut Bytes) -> Result<(), NoMemory>
-        requires { IsRange kind self.now }
-        ensures { OnOk result (to.new ≡ to.old ++ printed kind self.now) }
-    {
-        match *self {
-            Range::Empty => to.extend_from_slice(b"empty"),
-            Range::Span { lower, upper } => {
-                to.push(if lower.is_some() { b'[' } else { b'(' })?;
-                print_bound(kind, lower, to)?;
-                to.push(b',')?;
-                print_bound(kind, upper, to)?;
-                to.push(b')')
-            }
-        }
-    }
 }
-
-/// A core has one answer of [`Range::read`].
-pub fn one_answer()
-    ensures { (kind : RangeKind) (core : List ℕ) (r s : Result Range ValueError) → AnswersRange kind core r → AnswersRange kind core s → r ≡ s }
-{}
-
-/// The printed text spells the range.
-pub fn printed_again()
-    ensures { (kind : RangeKind) (range : Range) → IsRange kind range → SpellsRange kind (core_of (printed kind range)) range }
-{}
 
 fn whole_range(kind: RangeKind, core: &[u8]) -> Result<Range, ValueError>
     requires { IsEmptyWord core.now → ⊥ }
@@ -128,32 +101,5 @@ fn behind_comma(bytes: &[u8]) -> Option<&[u8]>
     match bytes {
         [b',', rest @ ..] => Some(rest),
         _ => None,
-    }
-}
-
-fn print_bound(kind: RangeKind, bound: Option<i64>, to: &mut Bytes) -> Result<(), NoMemory>
-    requires { fits kind bound ≡ true }
-    ensures { OnOk result (to.new ≡ to.old ++ bound_text kind bound) }
-{
-    match bound {
-        Some(number) => print_element(kind, number, to),
-        None => Ok(()),
-    }
-}
-
-fn print_element(kind: RangeKind, number: i64, to: &mut Bytes) -> Result<(), NoMemory>
-    requires { fits kind (Some number) ≡ true }
-    ensures { OnOk result (to.new ≡ to.old ++ element_text kind number) }
-{
-    match kind {
-        RangeKind::Int4 => print_whole(number, to),
-        RangeKind::Int8 => print_whole(number, to),
-        RangeKind::Date => {
-            if number == 2_932_897 {
-                to.extend_from_slice(b"10000-01-01")
-            } else {
-                print_day(number as i32, to)
-            }
-        }
     }
 }

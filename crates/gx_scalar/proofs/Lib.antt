@@ -1,4 +1,2 @@
 pub mod Pairs
-pub mod SixteenBytes
 pub mod TextLemmas
-pub mod Years

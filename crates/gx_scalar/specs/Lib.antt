@@ -1,4 +1,4 @@
 pub mod Values
 pub mod Texts
 pub mod Encodings
-pub mod Order
+pub mod Operators

@@ -1,11 +1,9 @@
 //! Scalars as bytes.
 
-ghost use Rattle.std.specs.Prelude.{◌≡◌, ◌≢◌, ℕ, ◌^◌, ◌<◌, ◌++◌, length, IfOk, OnOk, MatchOption};
+ghost use Rattle.std.specs.Prelude.{◌≡◌, ℕ, ◌^◌, ◌<◌, ◌++◌, length, IfOk, OnOk, MatchOption};
 ghost use Rattle.std.specs.Int.{w32, w64, w128, to_le_bytes, to_be_bytes, cast_unsigned};
-ghost use Rattle.gx_scalar.specs.declared.scalar.Scalar.{Scalar};
-ghost use Rattle.gx_scalar.specs.declared.scalar.ScalarKind.{ScalarKind};
 ghost use Rattle.gx_scalar.specs.declared.scalar.ScalarKind.TheVariants as kinds;
-ghost use Rattle.gx_scalar.specs.Values.{IsScalar, IsValid};
+ghost use Rattle.gx_scalar.specs.Values.{IsValid};
 ghost use Rattle.gx_scalar.specs.Encodings.{encoded, DecodesTo};
 
 use crate::{Scalar, ScalarKind};
@@ -47,11 +45,6 @@ impl Scalar {
         }
     }
 }
-
-/// Two valid scalars of a type have different bytes.
-pub fn one_encoding()
-    ensures { (kind : ScalarKind) (a b : Scalar) → IsScalar kind a → IsScalar kind b → encoded a ≡ encoded b → a ≡ b }
-{}
 
 fn int4_from(bytes: &[u8]) -> Option<Scalar>
     ensures { DecodesTo kinds.Int4 bytes.now result }

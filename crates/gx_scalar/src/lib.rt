@@ -3,13 +3,13 @@
 
 mod bytea;
 mod encoding;
-mod order;
+mod laws;
+mod operators;
+mod print;
 mod scalar;
-#[cfg(test)]
-mod tests;
 mod text;
 mod uuids;
 
-pub use encoding::one_encoding;
+pub use laws::{one_answer, one_encoding, printed_again};
+pub use operators::ScalarOp;
 pub use scalar::{Scalar, ScalarKind};
-pub use text::{one_answer, printed_again};

@@ -1,18 +1,12 @@
-//! Scalars as text.
+//! Scalars from text.
 
-ghost use Rattle.std.specs.Prelude.{◌≡◌, ◌≢◌, ℕ, ◌++◌, List, OnOk, Result, Err};
-ghost use Rattle.gx_bytes.specs.declared.error.ValueError.{ValueError};
-ghost use Rattle.gx_bytes.specs.declared.error.ValueError.TheVariants.{Memory};
-ghost use Rattle.gx_scalar.specs.declared.scalar.Scalar.{Scalar};
-ghost use Rattle.gx_scalar.specs.declared.scalar.ScalarKind.{ScalarKind};
 ghost use Rattle.gx_scalar.specs.declared.scalar.ScalarKind.TheVariants as kinds;
-ghost use Rattle.gx_scalar.specs.Values.{IsValid};
-ghost use Rattle.gx_scalar.specs.Texts.{Spells, AnswersScalar, printed};
+ghost use Rattle.gx_scalar.specs.Texts.{AnswersScalar};
 
-use crate::bytea::{bytea_of, print_bytea};
-use crate::uuids::{print_uuid, uuid_of};
+use crate::bytea::bytea_of;
+use crate::uuids::uuid_of;
 use crate::{Scalar, ScalarKind};
-use gx_bytes::{Bytes, NoMemory, ValueError, print_day, print_whole, read_day, read_whole};
+use gx_bytes::{Bytes, ValueError, read_day, read_whole};
 use std::alloc::Global;
 
 impl Scalar {
@@ -28,21 +22,6 @@ impl Scalar {
             ScalarKind::Bytea => bytea_of(alloc, text),
             ScalarKind::Date => date_of(text),
             ScalarKind::Uuid => uuid_of(text),
-        }
-    }
-
-    /// Appends the printed text.
-    pub fn print(&self, to: &mut Bytes) -> Result<(), NoMemory>
-        requires { IsValid self.now }
-        ensures { OnOk result (to.new ≡ to.old ++ printed self.now) }
-    {
-        match self {
-            Scalar::Int4(number) => print_whole(i64::from(*number), to),
-            Scalar::Int8(number) => print_whole(*number, to),
-            Scalar::Text(bytes) => to.extend_from_slice(bytes.as_slice()),
-            Scalar::Bytea(bytes) => print_bytea(bytes.as_slice(), to),
-            Scalar::Date(day) => print_day(*day, to),
-            Scalar::Uuid(number) => print_uuid(*number, to),
         }
     }
 }
@@ -82,13 +61,3 @@ fn date_of(text: &str) -> Result<Scalar, ValueError>
         Err(fault) => Err(fault),
     }
 }
-
-/// A text has one answer of [`Scalar::read`], but for want of memory.
-pub fn one_answer()
-    ensures { (kind : ScalarKind) (text : List ℕ) (r s : Result Scalar ValueError) → AnswersScalar kind text r → AnswersScalar kind text s → r ≢ Err Memory → s ≢ Err Memory → r ≡ s }
-{}
-
-/// The printed text spells the scalar.
-pub fn printed_again()
-    ensures { (scalar : Scalar) → IsValid scalar → Spells (printed scalar) scalar }
-{}

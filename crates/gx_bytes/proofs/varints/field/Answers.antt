@@ -1,6 +1,6 @@
-use Rattle.std.proofs.Common.{◌≡◌, ℕ, List, ◌++◌, length, take, drop, sym, ◌∙◌, ap, subst, arith, length-take}
+use Rattle.std.proofs.Common.{◌≡◌, ℕ, ◌+◌, List, ◌++◌, length, take, drop, sym, ◌∙◌, ap, subst, arith, length-take}
 use Rattle.gx_bytes.specs.Varints.{IsVarint}
-use Rattle.gx_bytes.proofs.Spellings.{field_count, fronts_same, take_join}
+use Rattle.gx_bytes.proofs.Spellings.{field_count, fronts_same, take_join, field_there, part_again}
 use Rattle.gx_bytes.proofs.varints.field.Goals as goal
 
 pub returns-in_err-len-clause-none : goal.returns-in_err-len-clause-none
@@ -25,3 +25,12 @@ returns-clause-found c =
       subst (λ (n : ℕ). IsVarint (take c.in_ok-len.count bytes) n) (sym size) c.in_ok-len.ensures.found,
       take_join c.in_ok-len.count (length c.split_at-2.result.0.now) bytes ∙ ap (λ (l : List ℕ). take c.in_ok-len.count bytes ++ l) part,
     )
+
+pub returns-in_err-len-clause-again : goal.returns-in_err-len-clause-again
+returns-in_err-len-clause-again c = rw c.from_residual.ensures (λ part rest is. field_there c.args.bytes.now part rest is (rw c.from_residual.ensures at (returns-in_err-len-clause-none c)))
+
+pub returns-then-len-rest-clause-again : goal.returns-then-len-rest-clause-again
+returns-then-len-rest-clause-again c = λ part rest is. field_there c.args.bytes.now part rest is (returns-then-len-rest-clause-none c)
+
+pub returns-clause-again : goal.returns-clause-again
+returns-clause-again c = λ part rest is. part_again c.args.bytes.now part rest c.split_at-2.result.0.now (c.in_ok-len.count + length c.split_at-2.result.0.now) is (omega (arith, c.split_at-2.ensures.front_len, c.if-len-rest.false, c.split_at.ensures.back_len, c.in_ok-len.ensures.length)) (returns-clause-found c)

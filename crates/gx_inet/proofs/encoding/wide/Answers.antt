@@ -1,7 +1,7 @@
 -- Sixteen bytes are those of the number that they write.
 use Rattle.std.proofs.Common.{ap, ◌∙◌, arith}
 use Rattle.std.specs.Int.{w128, from_be_bytes}
-use Rattle.gx_inet.proofs.SixteenBytes.{written_16}
+use Rattle.gx_bytes.proofs.SixteenBytes.{written_16}
 use Rattle.gx_inet.proofs.encoding.wide.Goals as goal
 
 pub returns-in-Ok : goal.returns-in-Ok

@@ -1,7 +1,7 @@
 -- Nothing is left, or NULL.
 use Rattle.std.proofs.Common.{rules, arith}
 use Rattle.gx_intarr.specs.Texts.{IsNullWord}
-use Rattle.gx_intarr.proofs.RunLemmas.{no_length}
+use Rattle.gx_formula.proofs.ReadLemmas.{no_length}
 use Rattle.gx_intarr.proofs.ElementLemmas.{no_run, bareword_only}
 use Rattle.gx_intarr.proofs.elements.take_bareword.Goals.{then-is_empty-via-then-is_empty, then-is_empty-via-else-is_empty+then-eq_ignore_ascii_case}
 use Rattle.gx_intarr.proofs.elements.take_bareword.Goals as goal

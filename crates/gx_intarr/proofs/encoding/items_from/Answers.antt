@@ -1,5 +1,5 @@
 -- Some bytes are left.
-use Rattle.gx_intarr.proofs.RunLemmas.{some_length}
+use Rattle.gx_formula.proofs.ReadLemmas.{some_length}
 use Rattle.gx_intarr.proofs.EncodingLemmas.{bytes_left}
 use Rattle.gx_intarr.proofs.encoding.items_from.Goals as goal
 

@@ -3,10 +3,10 @@ use Rattle.serde_json.specs.Data.{array, object}
 use Rattle.serde_json.specs.View.{view, members_view}
 use Rattle.serde_json.proofs.Views.{Entry, view-Array, view-Object}
 use Rattle.gx_json.specs.declared.document.Json.{Json}
-use Rattle.gx_json.specs.Tree.{items_data, members_data}
+use Rattle.gx_json.specs.Tree.{data_of, items_data, members_data}
 use Rattle.gx_json.specs.Valid.{IsStored, AreStored, MembersStored, IsRising}
 use Rattle.gx_json.proofs.TreeLemmas.{data_of-List, data_of-Object}
-use Rattle.gx_json.proofs.ConvertLemmas.{left_whole, stored_push, copied_more, members_more, pairs_stored_push, members_left_whole, rising}
+use Rattle.gx_json.proofs.ConvertLemmas.{left_whole, stored_push, mapped_more, members_more, pairs_stored_push, members_left_whole, rising}
 use Rattle.gx_json.proofs.convert.+convert.Goals as goal
 
 pub convert-returns-in_ok-convert_items-in-Array : goal.convert-returns-in_ok-convert_items-in-Array
@@ -27,7 +27,7 @@ convert_items-loop-item-preserved t c =
     let vs = c.deref-item-items.result.now in
     let made = c.in_ok-convert in
     let more : c.push.new.self.items ≡ l.copies.items ++ made.field-0 ∷ [] = c.in_ok-push.ensures.items in (
-      copied_more l.copies.items c.push.new.self.items vs l.item-index made.field-0 c.item-item.result c.loop-item-test.true c.item-item.is l.invariant.0 made.ensures.0 more,
+      mapped_more data_of view l.copies.items c.push.new.self.items vs l.item-index made.field-0 c.item-item.result c.loop-item-test.true c.item-item.is l.invariant.0 made.ensures.0 more,
       left_whole vs l.item-index c.item-item.result c.loop-item-test.true c.item-item.is l.invariant.1,
       subst (λ (js : List Json). AreStored (items_data js)) (sym more) (stored_push l.copies.items made.field-0 l.invariant.2 made.ensures.1),
     )

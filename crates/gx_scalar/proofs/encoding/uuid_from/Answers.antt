@@ -1,6 +1,6 @@
 use Rattle.std.proofs.Common.{refl, ap, ◌∙◌, arith}
 use Rattle.std.specs.Int.{w128, from_be_bytes}
-use Rattle.gx_scalar.proofs.SixteenBytes.{written_16}
+use Rattle.gx_bytes.proofs.SixteenBytes.{written_16}
 use Rattle.gx_scalar.proofs.encoding.uuid_from.Goals as goal
 
 pub returns-in-Ok : goal.returns-in-Ok

@@ -1,6 +1,6 @@
 use Rattle.std.proofs.Common.{refl, rules, to_z-of_z, FitsSigned, w32}
 use Rattle.gx_scalar.proofs.TextLemmas.{day_fault}
-use Rattle.gx_scalar.proofs.Years.{spelled_in_years}
+use Rattle.gx_bytes.proofs.Years.{spelled_in_years}
 use Rattle.gx_scalar.proofs.text.date_of.Goals as goal
 
 pub returns-in-Ok : goal.returns-in-Ok

@@ -1,6 +1,0 @@
--- Two arrays have different bytes.
-use Rattle.gx_intarr.proofs.EncodingLemmas.{one_encoding}
-use Rattle.gx_intarr.proofs.encoding.one_encoding.Goals as goal
-
-pub returns : goal.returns
-returns c = one_encoding

@@ -1,6 +1,0 @@
--- The printed text spells the array.
-use Rattle.gx_intarr.proofs.PrintLemmas.{printed_again}
-use Rattle.gx_intarr.proofs.print.printed_again.Goals as goal
-
-pub returns : goal.returns
-returns c = printed_again

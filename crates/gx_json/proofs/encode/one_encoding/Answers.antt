@@ -1,5 +1,0 @@
-use Rattle.gx_json.proofs.ReadBack.{one_encoding}
-use Rattle.gx_json.proofs.encode.one_encoding.Goals as goal
-
-pub returns : goal.returns
-returns c = one_encoding

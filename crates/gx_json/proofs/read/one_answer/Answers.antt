@@ -1,5 +1,0 @@
-use Rattle.gx_json.proofs.AnswerLemmas.{one_answer}
-use Rattle.gx_json.proofs.read.one_answer.Goals as goal
-
-pub returns : goal.returns
-returns c = one_answer

@@ -1,0 +1,10 @@
+use Rattle.std.proofs.Common.{length}
+use Rattle.gx_lquery.specs.Text.{SpellsVariant}
+use Rattle.gx_lquery.proofs.SplitLemmas.{HasSplit}
+use Rattle.gx_lquery.proofs.text.variants_of.Given as goal
+
+abbrev pub invariant-loop-piece : goal.invariant-loop-piece
+invariant-loop-piece l = HasSplit SpellsVariant 124 l.text l.rest l.variants
+
+abbrev pub decreases-loop-piece : goal.decreases-loop-piece
+decreases-loop-piece l = length l.rest

@@ -1,9 +1,0 @@
-use Rattle.std.proofs.Common.{◌≡◌, length}
-use Rattle.gx_ltree.specs.Path.{order}
-use Rattle.gx_ltree.proofs.path.compare_labels.Given as goal
-
-abbrev pub invariant-loop-a : goal.invariant-loop-a
-invariant-loop-a l = order l.a l.b ≡ order l.left l.right
-
-abbrev pub decreases-loop-a : goal.decreases-loop-a
-decreases-loop-a l = length l.a

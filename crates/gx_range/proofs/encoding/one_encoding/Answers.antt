@@ -1,5 +1,0 @@
-use Rattle.gx_range.proofs.EncodingLemmas.{one_encoding}
-use Rattle.gx_range.proofs.encoding.one_encoding.Goals as goal
-
-pub returns : goal.returns
-returns c = one_encoding

@@ -1,5 +1,0 @@
-use Rattle.gx_range.proofs.TextLemmas.{one_answer}
-use Rattle.gx_range.proofs.text.one_answer.Goals as goal
-
-pub returns : goal.returns
-returns c = one_answer

@@ -1,5 +1,0 @@
-use Rattle.gx_scalar.proofs.TextLemmas.{one_answer}
-use Rattle.gx_scalar.proofs.text.one_answer.Goals as goal
-
-pub returns : goal.returns
-returns c = one_answer

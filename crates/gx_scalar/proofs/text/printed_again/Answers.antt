@@ -1,5 +1,0 @@
-use Rattle.gx_scalar.proofs.TextLemmas.{scalar_printed}
-use Rattle.gx_scalar.proofs.text.printed_again.Goals as goal
-
-pub returns : goal.returns
-returns c = scalar_printed
