@@ -1,0 +1,4 @@
+pub mod Operands
+pub mod Resolving
+pub mod Literals
+pub mod Operators

@@ -1,0 +1,13 @@
+//! The operators over values of every type: which operand a literal is taken for, how it is read, and when an
+//! operator holds.
+#![tactic(auto)]
+
+mod operand;
+mod operators;
+mod resolving;
+mod text;
+
+pub use operand::{Operand, Part};
+pub use operators::holds;
+pub use resolving::{NoOperator, resolve};
+pub use text::read_operand;

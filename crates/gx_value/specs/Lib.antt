@@ -1,0 +1,6 @@
+pub mod Types
+pub mod Operators
+pub mod Classes
+pub mod Values
+pub mod Literals
+pub mod Rows
