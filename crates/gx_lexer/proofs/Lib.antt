@@ -1,0 +1,6 @@
+mod CutFacts
+mod CutLaw
+mod FeedFacts
+mod LexemeFacts
+mod OperatorFacts
+mod QuoteFacts

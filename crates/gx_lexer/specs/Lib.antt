@@ -1,0 +1,6 @@
+pub mod Cut
+pub mod Feeding
+pub mod Letters
+pub mod Lexemes
+pub mod Parts
+pub mod Tokens

@@ -1,0 +1,12 @@
+mod AnswerFacts
+mod CompleteFacts
+mod CondFacts
+mod FaultFacts
+mod GivenFacts
+mod GoingFacts
+mod HeadFacts
+mod RunFacts
+mod SaidFacts
+mod SoundFacts
+mod TokenFacts
+mod WiderFacts

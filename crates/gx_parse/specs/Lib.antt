@@ -1,0 +1,16 @@
+pub mod Answers
+pub mod Conditions
+pub mod Faults
+pub mod Grammar
+pub mod Indexes
+pub mod Inserts
+pub mod Literals
+pub mod Nests
+pub mod Outcomes
+pub mod Queries
+pub mod Runs
+pub mod Said
+pub mod States
+pub mod Tables
+pub mod Trees
+pub mod Words

@@ -1,0 +1,5 @@
+//! Tests of the grammar by its public calls.
+#![tactic(auto)]
+
+#[cfg(test)]
+mod statements;
