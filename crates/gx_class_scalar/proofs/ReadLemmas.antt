@@ -147,10 +147,3 @@ parts_crossed kind bytes behind rest low high is v w parts second above key p e 
     let same = one_part high s.high rest [] w s.valid (sym second ∙ s.bytes ∙ sym (append-nil (part_bytes s.high))) in
     let P : Part → Type 0 = λ t. IsAtMost part_cmp low t in
     true≢false (sym above ∙ subst P (sym same.0) s.rises)
-
--- copies stand to each other as what they were copied from
-pub moved_above : (a b x y : List ℕ) (m n : Bool) → a ≡ x → b ≡ y → is_gt (part_cmp (part_with a m) (part_with b n)) ≡ true → is_gt (part_cmp (part_with x m) (part_with y n)) ≡ true
-moved_above a b x y m n p q e =
-    let P : List ℕ → Type 0 = λ t. is_gt (part_cmp (part_with t m) (part_with b n)) ≡ true in
-    let Q : List ℕ → Type 0 = λ t. is_gt (part_cmp (part_with x m) (part_with t n)) ≡ true in
-    subst Q q (subst P p e)

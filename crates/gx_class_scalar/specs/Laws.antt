@@ -18,16 +18,16 @@ use Rattle.gx_scalar.specs.declared.scalar.ScalarKind.TheVariants as kinds
 use Rattle.gx_scalar.specs.Values.{IsScalar, kind_of, least_int4, greatest_int4, least_int8, greatest_int8}
 use Rattle.gx_bytes.specs.Wholes.{IsWithin}
 use Rattle.gx_bytes.specs.Days.{IsDateDay}
-use Rattle.gx_scalar.specs.Order.{order}
+use Rattle.gx_scalar.specs.Operators.{order, accepts, Holds}
 use Rattle.gx_class_scalar.specs.declared.key.Part.{Part}
 use Rattle.gx_class_scalar.specs.declared.key.ScalarKey.{ScalarKey}
 use Rattle.gx_class_scalar.specs.declared.key.ScalarKey.TheVariants.{Int4, Int8, Date, Uuid, Cut}
-use Rattle.gx_class_scalar.specs.declared.query.ScalarOp.{ScalarOp}
-use Rattle.gx_class_scalar.specs.declared.query.ScalarOp.TheVariants as ops
+use Rattle.gx_scalar.specs.declared.operators.ScalarOp.{ScalarOp}
+use Rattle.gx_scalar.specs.declared.operators.ScalarOp.TheVariants as ops
 use Rattle.gx_class_scalar.specs.declared.query.ScalarQuery.{ScalarQuery}
-use Rattle.gx_class_scalar.specs.Orders.{accepts, may_accept, may_accept_cut, IsAtMost, lesser, greater}
+use Rattle.gx_class_scalar.specs.Orders.{may_accept, may_accept_cut, IsAtMost, lesser, greater}
 use Rattle.gx_class_scalar.specs.Keys.{front, part_of, part_cmp, leaf_key, joined, IsOver, IsPart, IsKey}
-use Rattle.gx_class_scalar.specs.Tests.{Holds, decided, cut_place, part_test, leaf_answer, may, inner_answer}
+use Rattle.gx_class_scalar.specs.Tests.{decided, cut_place, part_test, leaf_answer, may, inner_answer}
 
 -- of any total order
 back_of : (r : Ordering) → is_gt r ≡ true → is_gt (ordering_reverse r) ≡ false
@@ -308,14 +308,14 @@ answered op v w k = absurd (cc k)
 same_kind : (kind : ScalarKind) (v w : Scalar) → IsScalar kind v → IsScalar kind w → kind_of v ≡ kind_of w
 same_kind kind v w p q = p.0 ∙ sym q.0
 
-pub leaf_sees : (kind : ScalarKind) (v : Scalar) (q : ScalarQuery) → IsScalar kind v → IsScalar kind q.operand → Holds v q → leaf_answer q.op (leaf_key v) q.operand ≢ No
+pub leaf_sees : (kind : ScalarKind) (v : Scalar) (q : ScalarQuery) → IsScalar kind v → IsScalar kind q.operand → Holds q.op v q.operand → leaf_answer q.op (leaf_key v) q.operand ≢ No
 leaf_sees kind v q p r holds never =
     elim (answered q.op v q.operand (same_kind kind v q.operand p r)) [
       | inl e ↦ true_some (accepts q.op (order v q.operand)) holds (sym e ∙ never)
       | inr e ↦ let both_ : Maybe ≡ No = sym e ∙ never in cc both_
     ]
 
-pub leaf_is_sure : (kind : ScalarKind) (v : Scalar) (q : ScalarQuery) → IsScalar kind v → IsScalar kind q.operand → leaf_answer q.op (leaf_key v) q.operand ≡ Yes → Holds v q
+pub leaf_is_sure : (kind : ScalarKind) (v : Scalar) (q : ScalarQuery) → IsScalar kind v → IsScalar kind q.operand → leaf_answer q.op (leaf_key v) q.operand ≡ Yes → Holds q.op v q.operand
 leaf_is_sure kind v q p r sure =
     elim (answered q.op v q.operand (same_kind kind v q.operand p r)) [
       | inl e ↦ yes_true (accepts q.op (order v q.operand)) (sym e ∙ sure)

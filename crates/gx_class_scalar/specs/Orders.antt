@@ -1,18 +1,9 @@
--- What an order of values says of an operator, and of the least and the greatest value below a key.
+-- What an order of values says of the least and the greatest value below a key.
 use Rattle.std.specs.Prelude.{◌≡◌, Bool, true, false, not, ◌&&◌, if◌then◌else◌}
 use Rattle.std.specs.Ordering.{is_eq, is_lt, is_le, is_gt, is_ge}
 use Rattle.std.specs.declared.cmp.Ordering.{Ordering}
-use Rattle.gx_class_scalar.specs.declared.query.ScalarOp.{ScalarOp}
-use Rattle.gx_class_scalar.specs.declared.query.ScalarOp.TheVariants.{Equal, NotEqual, Less, LessEqual, Greater, GreaterEqual}
-
--- the operator holds of a value that stands so to the operand
-abbrev pub accepts : ScalarOp → Ordering → Bool
-accepts Equal o = is_eq o
-accepts NotEqual o = not (is_eq o)
-accepts Less o = is_lt o
-accepts LessEqual o = is_le o
-accepts Greater o = is_gt o
-accepts GreaterEqual o = is_ge o
+use Rattle.gx_scalar.specs.declared.operators.ScalarOp.{ScalarOp}
+use Rattle.gx_scalar.specs.declared.operators.ScalarOp.TheVariants.{Equal, NotEqual, Less, LessEqual, Greater, GreaterEqual}
 
 -- it may hold of a value from a least one to a greatest one, which stand so to the operand
 abbrev pub may_accept : ScalarOp → Ordering → Ordering → Bool

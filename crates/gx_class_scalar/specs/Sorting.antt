@@ -1,8 +1,9 @@
--- The order of keys that a split may cut: from the least, by the lesser value, then by the greater; ties by place.
-use Rattle.std.specs.Prelude.{ℕ, false, List, [], length, ℤ, pos, slice_index_or, IsSortedBy}
-use Rattle.std.specs.Ordering.{nat_cmp, int_cmp, then_cmp, on, is_lt}
+-- The order of keys that a split may cut: from the least, by the lesser value, then by the greater.
+use Rattle.std.specs.Prelude.{ℕ, false, [], ℤ, pos}
+use Rattle.std.specs.Ordering.{nat_cmp, int_cmp, then_cmp, on}
+use Rattle.std.specs.Cmp.{IsTotalOrder, bool_cmp_total}
+use Rattle.std.proofs.lemmas.Cmp.{nat_cmp_total, int_cmp_total, nat_list_cmp_total, then_total, on_total}
 use Rattle.std.specs.declared.cmp.Ordering.{Ordering}
-use Rattle.gx_gist.specs.Places.{IsRearrangement}
 use Rattle.gx_class_scalar.specs.declared.key.Part.{Part}
 use Rattle.gx_class_scalar.specs.declared.key.ScalarKey.{ScalarKey}
 use Rattle.gx_class_scalar.specs.declared.key.ScalarKey.TheVariants.{Int4, Int8, Date, Uuid, Cut}
@@ -53,13 +54,11 @@ parts_cmp = then_cmp (on part_lo part_cmp) (on part_hi part_cmp)
 abbrev pub key_cmp : ScalarKey → ScalarKey → Ordering
 key_cmp = then_cmp ints_cmp (then_cmp nats_cmp parts_cmp)
 
-abbrev pub key_at : List ScalarKey → ℕ → ScalarKey
-key_at keys place = slice_index_or keys place (Uuid 0 0)
+part_total : IsTotalOrder part_cmp
+part_total = then_total (on_total (λ (p : Part). p.bytes) nat_list_cmp_total) (on_total (λ (p : Part). p.more) bool_cmp_total)
 
-abbrev pub place_cmp : List ScalarKey → ℕ → ℕ → Ordering
-place_cmp keys = then_cmp (on (key_at keys) key_cmp) nat_cmp
-
--- each place once, in this order
-pub record IsOrdered (keys : List ScalarKey) (places : List ℕ) : Type 0 where
-  pub all : IsRearrangement places (length keys)
-  pub rising : IsSortedBy (λ a b. is_lt (place_cmp keys a b)) places
+pub key_total : IsTotalOrder key_cmp
+key_total =
+    then_total (then_total (on_total int_lo int_cmp_total) (on_total int_hi int_cmp_total))
+    (then_total (then_total (on_total nat_lo nat_cmp_total) (on_total nat_hi nat_cmp_total))
+    (then_total (on_total part_lo part_total) (on_total part_hi part_total)))

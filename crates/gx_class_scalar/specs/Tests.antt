@@ -8,18 +8,14 @@ use Rattle.gx_gist.specs.declared.test.Test.{Test}
 use Rattle.gx_gist.specs.declared.test.Test.TheVariants.{No, Maybe, Yes}
 use Rattle.gx_scalar.specs.declared.scalar.Scalar.{Scalar}
 use Rattle.gx_scalar.specs.declared.scalar.Scalar.TheVariants as scalars
-use Rattle.gx_scalar.specs.Order.{order}
+use Rattle.gx_scalar.specs.Operators.{accepts}
 use Rattle.gx_class_scalar.specs.declared.key.Part.{Part}
 use Rattle.gx_class_scalar.specs.declared.key.ScalarKey.{ScalarKey}
 use Rattle.gx_class_scalar.specs.declared.key.ScalarKey.TheVariants.{Int4, Int8, Date, Uuid, Cut}
-use Rattle.gx_class_scalar.specs.declared.query.ScalarOp.{ScalarOp}
+use Rattle.gx_scalar.specs.declared.operators.ScalarOp.{ScalarOp}
 use Rattle.gx_class_scalar.specs.declared.query.ScalarQuery.{ScalarQuery}
-use Rattle.gx_class_scalar.specs.Orders.{accepts, may_accept, may_accept_cut}
+use Rattle.gx_class_scalar.specs.Orders.{may_accept, may_accept_cut}
 use Rattle.gx_class_scalar.specs.Keys.{front}
-
--- the query holds of the value
-abbrev pub Holds : Scalar → ScalarQuery → Type 0
-Holds value query = accepts query.op (order value query.operand) ≡ true
 
 -- a value whose place is known is decided
 abbrev pub decided : ScalarOp → Ordering → Test
@@ -51,14 +47,17 @@ leaf_answer op key operand = No
 abbrev pub may : Bool → Test
 may b = if b then Maybe else No
 
-abbrev pub parts_test : ScalarOp → Part → Part → List ℕ → Test
-parts_test op a b q = may (may_accept_cut op (slice_cmp nat_cmp a.bytes (front q)) (slice_cmp nat_cmp b.bytes (front q)))
+abbrev pub parts_test : ScalarOp → List ℕ → List ℕ → List ℕ → Test
+parts_test op low high q = may (may_accept_cut op (slice_cmp nat_cmp low (front q)) (slice_cmp nat_cmp high (front q)))
 
 abbrev pub inner_answer : ScalarOp → ScalarKey → Scalar → Test
 inner_answer op (Int4 a b) (scalars.Int4 n) = may (may_accept op (int_cmp a n) (int_cmp b n))
 inner_answer op (Int8 a b) (scalars.Int8 n) = may (may_accept op (int_cmp a n) (int_cmp b n))
 inner_answer op (Date a b) (scalars.Date n) = may (may_accept op (int_cmp a n) (int_cmp b n))
 inner_answer op (Uuid a b) (scalars.Uuid n) = may (may_accept op (nat_cmp a n) (nat_cmp b n))
-inner_answer op (Cut a b) (scalars.Text q) = parts_test op a b q
-inner_answer op (Cut a b) (scalars.Bytea q) = parts_test op a b q
+inner_answer op (Cut a b) (scalars.Text q) = parts_test op a.bytes b.bytes q
+inner_answer op (Cut a b) (scalars.Bytea q) = parts_test op a.bytes b.bytes q
 inner_answer op key operand = No
+
+abbrev pub key_test : Bool → ScalarOp → ScalarKey → Scalar → Test
+key_test at_leaf op key operand = if at_leaf then leaf_answer op key operand else inner_answer op key operand

@@ -1,22 +1,24 @@
 //! The class.
 
 ghost use Rattle.std.specs.Prelude.{◌≡◌, ◌≢◌, ◌↔◌, ◌≤◌, ℕ, Contains, IsTrue, IsOk, IfOk, MatchOption, length, if◌then◌else◌};
+ghost use Rattle.gx_scalar.specs.Operators.{Holds};
 ghost use Rattle.gx_scalar.specs.Values.{IsScalar};
 ghost use Rattle.gx_class_scalar.specs.Keys.{leaf_key, joined, IsOver, IsKey, spelled};
-ghost use Rattle.gx_class_scalar.specs.Tests.{Holds, leaf_answer, inner_answer};
+ghost use Rattle.gx_class_scalar.specs.Growths.{growth};
+ghost use Rattle.gx_class_scalar.specs.Tests.{leaf_answer, inner_answer, key_test};
 ghost use Rattle.gx_class_scalar.specs.Laws.{leaf_is_valid, union_is_valid, over_itself, over_left, over_right, inner_sees, leaf_sees, leaf_is_sure};
-ghost use Rattle.gx_class_scalar.specs.Sorting.{IsOrdered};
+ghost use Rattle.gx_gist.specs.Orders.{AreRanked};
+ghost use Rattle.gx_class_scalar.specs.Sorting.{key_cmp};
 ghost use Rattle.gx_class_scalar.specs.Spellings.{one_spelling, short_spelling};
 
 use crate::join::{leaf_of, same_keys, union_of};
-use crate::order::order_of;
 use crate::penalty::growth_of;
 use crate::read::key_from;
 use crate::spell::spell;
-use crate::tests_of_keys::{test_inner, test_leaf};
+use crate::tests_of_keys::test_key;
 use crate::{ScalarKey, ScalarQuery};
 use gx_bytes::{Bytes, NoMemory};
-use gx_gist::{GistClass, Keys, Places, Test};
+use gx_gist::{GistClass, Keys, Places, Test, places_by_rank};
 use gx_scalar::{Scalar, ScalarKind};
 use std::alloc::Global;
 
@@ -42,7 +44,7 @@ impl GistClass for ScalarClass {
 
     ghost valid_key = { λ c k. IsKey c.kind k };
 
-    ghost holds = { λ _ v q. Holds v q };
+    ghost holds = { λ _ v q. Holds q.op v q.operand };
 
     ghost leaf_of = { λ _ v. leaf_key v };
 
@@ -54,7 +56,9 @@ impl GistClass for ScalarClass {
 
     ghost inner_test = { λ _ k q. inner_answer q.op k q.operand };
 
-    ghost ordered = { λ _ keys places. IsOrdered keys places };
+    ghost ordered = { λ _ keys places. AreRanked key_cmp keys places };
+
+    ghost growth = { λ _ k l. growth k l };
 
     ghost spelling = { λ _ k. spelled k };
 
@@ -75,24 +79,21 @@ impl GistClass for ScalarClass {
         query: &ScalarQuery,
     ) -> Result<Test, NoMemory>
         ensures ok { IsOk result }
-        ensures answer { IfOk result (λ test. test ≡ (if at_leaf then leaf_answer query.now.op key.now query.now.operand else inner_answer query.now.op key.now query.now.operand)) }
+        ensures answer { IfOk result (λ test. test ≡ key_test at_leaf query.now.op key.now query.now.operand) }
     {
-        if at_leaf {
-            Ok(test_leaf(query.op, key, &query.operand))
-        } else {
-            Ok(test_inner(query.op, key, &query.operand))
-        }
+        Ok(test_key(at_leaf, query.op, key, &query.operand))
     }
 
     /// How far the ends of the key move. No memory is taken, so it is never refused.
     fn penalty(&self, _alloc: Global, key: &ScalarKey, added: &ScalarKey) -> Result<u128, NoMemory>
-        ensures { IsOk result }
+        ensures ok { IsOk result }
+        ensures answer { IfOk result (λ penalty. penalty ≡ growth key.now added.now) }
     {
         Ok(growth_of(key, added))
     }
 
     fn order(&self, alloc: Global, keys: &Keys<ScalarKey>) -> Result<Places, NoMemory> {
-        order_of(alloc, keys.as_slice())
+        places_by_rank(alloc, keys.as_slice())
     }
 
     fn same(&self, a: &ScalarKey, b: &ScalarKey) -> bool {

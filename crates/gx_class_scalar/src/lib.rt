@@ -4,6 +4,7 @@
 mod class;
 mod join;
 mod key;
+mod on_bytes;
 mod order;
 mod penalty;
 mod query;
@@ -13,8 +14,6 @@ mod spell;
 mod tests_of_keys;
 
 pub use class::ScalarClass;
+pub use gx_scalar::ScalarOp;
 pub use key::{Part, ScalarKey};
-pub use query::{ScalarOp, ScalarQuery};
-
-#[cfg(test)]
-mod tests;
+pub use query::ScalarQuery;

@@ -1,54 +1,20 @@
 //! The order of keys that a split may cut.
 
-ghost use Rattle.std.specs.Prelude.{◌≡◌, ℕ, ◌<◌, ◌^◌, List, length, slice_index_or, IfOk};
-ghost use Rattle.std.specs.List.{range_with_len};
-ghost use Rattle.gx_class_scalar.specs.declared.key.ScalarKey.TheVariants.{Uuid};
-ghost use Rattle.gx_class_scalar.specs.Sorting.{ints_cmp, nats_cmp, parts_cmp, key_cmp, key_at, place_cmp, part_lo, part_hi, IsOrdered, int_lo, int_hi, nat_lo, nat_hi};
+ghost use Rattle.std.specs.Prelude.{◌≡◌};
+ghost use Rattle.gx_class_scalar.specs.Sorting.{ints_cmp, nats_cmp, parts_cmp, key_cmp, key_total, part_lo, part_hi, int_lo, int_hi, nat_lo, nat_hi};
 
 use crate::ScalarKey;
-use gx_bytes::NoMemory;
-use gx_gist::Places;
-use std::alloc::{AllocError, Global};
+use gx_gist::Ranked;
 use std::cmp::Ordering;
 
-/// The places of the keys from the least, by the lesser value and then the greater, ties by place.
-pub fn order_of(alloc: Global, keys: &[ScalarKey]) -> Result<Places, NoMemory>
-    ensures { IfOk result (IsOrdered keys.now) }
-{
-    let mut places = places_of(alloc, keys.len())?;
-    places.sort_by(|a, b| compare_places(keys, *a, *b))?;
-    Places::from_slice(alloc, places.as_slice())
-}
+impl Ranked for ScalarKey {
+    ghost rank_cmp = { key_cmp };
 
-fn places_of(alloc: Global, count: usize) -> Result<Vec<u32>, NoMemory>
-    ensures { IfOk result (λ places. places.items ≡ range_with_len 0 count) }
-{
-    let Ok(count) = u32::try_from(count) else {
-        return Err(AllocError);
-    };
-    let mut places = Vec::new(alloc);
-    for place in 0..count {
-        places.push(place)?;
+    fn compare_rank(&self, other: &ScalarKey) -> Ordering {
+        compare_keys(self, other)
     }
-    Ok(places)
-}
 
-fn compare_places(keys: &[ScalarKey], a: u32, b: u32) -> Ordering
-    ensures { result ≡ place_cmp keys.now a b }
-{
-    let none = ScalarKey::Uuid { lo: 0, hi: 0 };
-    compare_keys(key_or(keys, a, &none), key_or(keys, b, &none)).then(a.cmp(&b))
-}
-
-fn key_or<'a>(keys: &'a [ScalarKey], place: u32, none: &'a ScalarKey) -> &'a ScalarKey
-    requires { none.now ≡ Uuid 0 0 }
-    ensures { result.now ≡ key_at keys.now place }
-{
-    if (place as usize) < keys.len() {
-        &keys[place as usize]
-    } else {
-        none
-    }
+    ghost ranks = { key_total };
 }
 
 /// By the lesser value, then by the greater.

@@ -1,17 +1,6 @@
 //! Queries.
 
-use gx_scalar::Scalar;
-
-/// The operators `= <> < <= > >=`.
-#[derive(Clone, Copy, Debug, PartialEq, Eq)]
-pub enum ScalarOp {
-    Equal,
-    NotEqual,
-    Less,
-    LessEqual,
-    Greater,
-    GreaterEqual,
-}
+use gx_scalar::{Scalar, ScalarOp};
 
 /// An operator with its operand.
 #[derive(Debug, Drop)]

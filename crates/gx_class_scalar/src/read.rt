@@ -1,6 +1,6 @@
 //! Keys from bytes.
 
-ghost use Rattle.std.specs.Prelude.{◌≡◌, ◌↔◌, ◌≤ℤ◌, length, IsTrue, IfOk};
+ghost use Rattle.std.specs.Prelude.{◌≡◌, ◌≢◌, ◌↔◌, ◌≤ℤ◌, length, IsTrue, IfOk};
 ghost use Rattle.std.specs.Int.{w32, w64, w128, to_le_bytes, to_be_bytes, cast_unsigned};
 ghost use Rattle.gx_bytes.specs.Days.{IsDateDay};
 ghost use Rattle.gx_scalar.specs.declared.scalar.ScalarKind.TheVariants as kinds;
@@ -26,12 +26,25 @@ pub fn key_from(
     ensures { IfOk result (ReadsTo kind bytes.now) }
 {
     match kind {
-        ScalarKind::Int4 => Ok(int4_from(bytes)),
-        ScalarKind::Int8 => Ok(int8_from(bytes)),
-        ScalarKind::Date => Ok(date_from(bytes)),
-        ScalarKind::Uuid => Ok(uuid_from(bytes)),
         ScalarKind::Text => cut_from(alloc, kind, bytes),
         ScalarKind::Bytea => cut_from(alloc, kind, bytes),
+        _ => Ok(fixed_from(kind, bytes)),
+    }
+}
+
+/// The same for values of fixed size.
+pub fn fixed_from(kind: ScalarKind, bytes: &[u8]) -> Option<ScalarKey>
+    requires text { kind ≢ kinds.Text }
+    requires bytea { kind ≢ kinds.Bytea }
+    ensures { ReadsTo kind bytes.now result }
+{
+    match kind {
+        ScalarKind::Int4 => int4_from(bytes),
+        ScalarKind::Int8 => int8_from(bytes),
+        ScalarKind::Date => date_from(bytes),
+        ScalarKind::Uuid => uuid_from(bytes),
+        ScalarKind::Text => None,
+        ScalarKind::Bytea => None,
     }
 }
 

@@ -1,16 +1,25 @@
 //! Keys of cut values from bytes.
 
-ghost use Rattle.std.specs.Prelude.{◌≡◌, ◌≢◌, ◌⊎◌, ℕ, ◌≤◌, ◌++◌, ◌∷◌, List, Bool, length, IfOk, MatchOption};
+ghost use Rattle.std.specs.Prelude.{◌≡◌, ◌≢◌, ◌⊎◌, ℕ, ◌≤◌, ◌++◌, ◌∷◌, List, Bool, Some, None, length, IfOk, MatchOption};
 ghost use Rattle.gx_scalar.specs.declared.scalar.ScalarKind.TheVariants as kinds;
 ghost use Rattle.gx_class_scalar.specs.declared.key.Part.{Part};
+ghost use Rattle.gx_class_scalar.specs.declared.key.ScalarKey.TheVariants.{Cut};
 ghost use Rattle.gx_class_scalar.specs.Keys.{IsPart, size_bytes, flag_of, part_bytes};
 ghost use Rattle.gx_class_scalar.specs.Readings.{ReadsTo, part_with};
 
-use crate::join::compare_parts;
 use crate::{Part, ScalarKey};
 use gx_bytes::{Bytes, NoMemory};
 use gx_scalar::ScalarKind;
 use std::alloc::Global;
+
+/// Both cut values of a key, as they stand in its bytes.
+#[derive(Clone, Copy, Drop)]
+pub struct Cuts<'a> {
+    pub low: &'a [u8],
+    pub low_more: bool,
+    pub high: &'a [u8],
+    pub high_more: bool,
+}
 
 /// The key of a text or a byte string with these bytes.
 pub fn cut_from(
@@ -21,27 +30,44 @@ pub fn cut_from(
     requires { (kind ≡ kinds.Text) ⊎ (kind ≡ kinds.Bytea) }
     ensures { IfOk result (ReadsTo kind bytes.now) }
 {
-    let Some((low, low_more, behind)) = part_from(bytes) else {
+    let Some(cuts) = cuts_from(kind, bytes) else {
         return Ok(None);
     };
-    let Some((high, high_more, rest)) = part_from(behind) else {
-        return Ok(None);
-    };
-    if !rest.is_empty() {
-        return Ok(None);
-    }
     let lo = Part {
-        bytes: Bytes::from_slice(alloc, low)?,
-        more: low_more,
+        bytes: Bytes::from_slice(alloc, cuts.low)?,
+        more: cuts.low_more,
     };
     let hi = Part {
-        bytes: Bytes::from_slice(alloc, high)?,
-        more: high_more,
+        bytes: Bytes::from_slice(alloc, cuts.high)?,
+        more: cuts.high_more,
     };
-    if compare_parts(&lo, &hi).is_gt() {
-        return Ok(None);
-    }
     Ok(Some(ScalarKey::Cut { lo, hi }))
+}
+
+/// Its cut values, where the bytes are those of a key of this type.
+pub fn cuts_from(kind: ScalarKind, bytes: &[u8]) -> Option<Cuts<'_>>
+    requires { (kind ≡ kinds.Text) ⊎ (kind ≡ kinds.Bytea) }
+    ensures { MatchOption result (ReadsTo kind bytes.now None) (λ cuts. ReadsTo kind bytes.now (Some (Cut (part_with cuts.low.now cuts.low_more) (part_with cuts.high.now cuts.high_more)))) }
+{
+    let _ = kind;
+    let Some((low, low_more, behind)) = part_from(bytes) else {
+        return None;
+    };
+    let Some((high, high_more, rest)) = part_from(behind) else {
+        return None;
+    };
+    if !rest.is_empty() {
+        return None;
+    }
+    if low.cmp(high).then(low_more.cmp(&high_more)).is_gt() {
+        return None;
+    }
+    Some(Cuts {
+        low,
+        low_more,
+        high,
+        high_more,
+    })
 }
 
 /// A cut value at the front of the bytes, and what follows.

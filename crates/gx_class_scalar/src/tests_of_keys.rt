@@ -1,11 +1,13 @@
 //! The tests of keys.
 
-ghost use Rattle.std.specs.Prelude.{◌≡◌, if◌then◌else◌};
+ghost use Rattle.std.specs.Prelude.{◌≡◌};
 ghost use Rattle.gx_class_scalar.specs.Keys.{front};
-ghost use Rattle.gx_class_scalar.specs.Orders.{accepts, may_accept, may_accept_cut};
-ghost use Rattle.gx_class_scalar.specs.Tests.{decided, part_test, parts_test, may, leaf_answer, inner_answer};
+ghost use Rattle.gx_scalar.specs.Operators.{accepts};
+ghost use Rattle.gx_class_scalar.specs.Orders.{may_accept, may_accept_cut};
+ghost use Rattle.gx_class_scalar.specs.Readings.{part_with};
+ghost use Rattle.gx_class_scalar.specs.Tests.{decided, part_test, parts_test, may, leaf_answer, inner_answer, key_test};
 
-use crate::{Part, ScalarKey, ScalarOp};
+use crate::{ScalarKey, ScalarOp};
 use gx_gist::Test;
 use gx_scalar::Scalar;
 use std::cmp::Ordering;
@@ -13,8 +15,19 @@ use std::cmp::Ordering;
 /// Most bytes of a cut value.
 const LONGEST: usize = 900;
 
+/// The test of a key.
+pub fn test_key(at_leaf: bool, op: ScalarOp, key: &ScalarKey, operand: &Scalar) -> Test
+    ensures { result ≡ key_test at_leaf op key.now operand.now }
+{
+    if at_leaf {
+        test_leaf(op, key, operand)
+    } else {
+        test_inner(op, key, operand)
+    }
+}
+
 /// The test of the key of one value.
-pub fn test_leaf(op: ScalarOp, key: &ScalarKey, operand: &Scalar) -> Test
+fn test_leaf(op: ScalarOp, key: &ScalarKey, operand: &Scalar) -> Test
     ensures { result ≡ leaf_answer op key.now operand.now }
 {
     match (key, operand) {
@@ -22,14 +35,24 @@ pub fn test_leaf(op: ScalarOp, key: &ScalarKey, operand: &Scalar) -> Test
         (ScalarKey::Int8 { lo, .. }, Scalar::Int8(n)) => decide(op, lo.cmp(n)),
         (ScalarKey::Date { lo, .. }, Scalar::Date(n)) => decide(op, lo.cmp(n)),
         (ScalarKey::Uuid { lo, .. }, Scalar::Uuid(n)) => decide(op, lo.cmp(n)),
-        (ScalarKey::Cut { lo, .. }, Scalar::Text(q)) => test_part(op, lo, q.as_slice()),
-        (ScalarKey::Cut { lo, .. }, Scalar::Bytea(q)) => test_part(op, lo, q.as_slice()),
+        (ScalarKey::Cut { lo, .. }, Scalar::Text(q)) => test_part(
+            op,
+            lo.bytes.as_slice(),
+            lo.more,
+            q.as_slice(),
+        ),
+        (ScalarKey::Cut { lo, .. }, Scalar::Bytea(q)) => test_part(
+            op,
+            lo.bytes.as_slice(),
+            lo.more,
+            q.as_slice(),
+        ),
         _ => Test::No,
     }
 }
 
 /// The test of the key of many values.
-pub fn test_inner(op: ScalarOp, key: &ScalarKey, operand: &Scalar) -> Test
+fn test_inner(op: ScalarOp, key: &ScalarKey, operand: &Scalar) -> Test
     ensures { result ≡ inner_answer op key.now operand.now }
 {
     match (key, operand) {
@@ -37,19 +60,30 @@ pub fn test_inner(op: ScalarOp, key: &ScalarKey, operand: &Scalar) -> Test
         (ScalarKey::Int8 { lo, hi }, Scalar::Int8(n)) => maybe(may(op, lo.cmp(n), hi.cmp(n))),
         (ScalarKey::Date { lo, hi }, Scalar::Date(n)) => maybe(may(op, lo.cmp(n), hi.cmp(n))),
         (ScalarKey::Uuid { lo, hi }, Scalar::Uuid(n)) => maybe(may(op, lo.cmp(n), hi.cmp(n))),
-        (ScalarKey::Cut { lo, hi }, Scalar::Text(q)) => test_parts(op, lo, hi, q.as_slice()),
-        (ScalarKey::Cut { lo, hi }, Scalar::Bytea(q)) => test_parts(op, lo, hi, q.as_slice()),
+        (ScalarKey::Cut { lo, hi }, Scalar::Text(q)) => test_parts(
+            op,
+            lo.bytes.as_slice(),
+            hi.bytes.as_slice(),
+            q.as_slice(),
+        ),
+        (ScalarKey::Cut { lo, hi }, Scalar::Bytea(q)) => test_parts(
+            op,
+            lo.bytes.as_slice(),
+            hi.bytes.as_slice(),
+            q.as_slice(),
+        ),
         _ => Test::No,
     }
 }
 
-fn test_part(op: ScalarOp, part: &Part, operand: &[u8]) -> Test
-    ensures { result ≡ part_test op part.now operand.now }
+/// Of the key of one value that begins with these bytes, and goes on where there are more.
+pub fn test_part(op: ScalarOp, bytes: &[u8], more: bool, operand: &[u8]) -> Test
+    ensures { result ≡ part_test op (part_with bytes.now more) operand.now }
 {
-    if !part.more {
-        return decide(op, part.bytes.as_slice().cmp(operand));
+    if !more {
+        return decide(op, bytes.cmp(operand));
     }
-    match part.bytes.as_slice().cmp(front_of(operand)) {
+    match bytes.cmp(front_of(operand)) {
         Ordering::Less => decide(op, Ordering::Less),
         Ordering::Greater => decide(op, Ordering::Greater),
         Ordering::Equal => {
@@ -62,15 +96,12 @@ fn test_part(op: ScalarOp, part: &Part, operand: &[u8]) -> Test
     }
 }
 
-fn test_parts(op: ScalarOp, lo: &Part, hi: &Part, operand: &[u8]) -> Test
-    ensures { result ≡ parts_test op lo.now hi.now operand.now }
+/// Of a key from the first of these cut values to the second.
+pub fn test_parts(op: ScalarOp, low: &[u8], high: &[u8], operand: &[u8]) -> Test
+    ensures { result ≡ parts_test op low.now high.now operand.now }
 {
     let front = front_of(operand);
-    maybe(may_cut(
-        op,
-        lo.bytes.as_slice().cmp(front),
-        hi.bytes.as_slice().cmp(front),
-    ))
+    maybe(may_cut(op, low.cmp(front), high.cmp(front)))
 }
 
 /// The first 900 bytes.
@@ -83,7 +114,7 @@ pub fn front_of(bytes: &[u8]) -> &[u8]
 fn decide(op: ScalarOp, place: Ordering) -> Test
     ensures { result ≡ decided op place }
 {
-    if accept(op, place) {
+    if op.accepts(place) {
         Test::Yes
     } else {
         Test::No
@@ -94,19 +125,6 @@ fn maybe(some: bool) -> Test
     ensures { result ≡ may some }
 {
     if some { Test::Maybe } else { Test::No }
-}
-
-fn accept(op: ScalarOp, place: Ordering) -> bool
-    ensures { result ≡ accepts op place }
-{
-    match op {
-        ScalarOp::Equal => place.is_eq(),
-        ScalarOp::NotEqual => place.is_ne(),
-        ScalarOp::Less => place.is_lt(),
-        ScalarOp::LessEqual => place.is_le(),
-        ScalarOp::Greater => place.is_gt(),
-        ScalarOp::GreaterEqual => place.is_ge(),
-    }
 }
 
 fn may(op: ScalarOp, lo: Ordering, hi: Ordering) -> bool

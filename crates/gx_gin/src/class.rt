@@ -13,7 +13,7 @@ use gx_gist::Test;
 use std::alloc::Global;
 
 /// A GIN operator class. Its calls are given valid classes, values and queries.
-pub trait GinClass {
+pub trait GinClass: Drop {
     /// What a column holds.
     type Value;
 

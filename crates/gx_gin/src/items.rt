@@ -1,27 +1,31 @@
 //! A rising list of byte strings.
 
-ghost use Rattle.std.specs.Prelude.{◌≡◌, ℕ, List, [], ◌∷◌, ◌++◌, length, OnOk, OnErr};
-ghost use Rattle.gx_gin.specs.Rising.{IsRising};
+ghost use Rattle.std.specs.Prelude.{◌≡◌, ◌≤◌, ℕ, List, [], length, map, slice_get, Some, IfSome, IfNone, IfOk, OnOk};
+ghost use Rattle.gx_gin.specs.Parts.{cut};
+ghost use Rattle.gx_gin.specs.Rising.{IsRising, rising_of};
 
-use gx_bytes::{Bytes, NoMemory};
+use crate::strings::{Part, Strings, part_at};
+use gx_bytes::NoMemory;
 use std::alloc::Global;
 use std::marker::Model;
 
-/// A list of byte strings, each before the next in the order of bytes.
-#[derive(Drop)]
+/// Byte strings in one buffer, each before the next in the order of bytes.
+#[derive(Debug, Drop)]
 pub struct Items {
-    items: Vec<Bytes>,
+    parts: Vec<Part>,
+    bytes: Vec<u8>,
 }
 
 impl Model for Items {
-    ghost use Rattle.std.specs.Prelude.{ℕ, List};
+    ghost use Rattle.std.specs.Prelude.{List, ℕ, map};
+    ghost use Rattle.gx_gin.specs.Parts.{cut};
     ghost use Rattle.gx_gin.specs.Rising.{IsRising};
 
     ghost Value = { List (List ℕ) };
 
-    ghost view = { λ l. l.items.items };
+    ghost view = { λ l. map (cut l.bytes.items) l.parts.items };
 
-    ghost invariant = { λ l. IsRising l.items.items };
+    ghost invariant = { λ l. IsRising (map (cut l.bytes.items) l.parts.items) };
 }
 
 impl Items {
@@ -30,47 +34,45 @@ impl Items {
         ensures { result ≡ [] }
     {
         Items {
-            items: Vec::new(alloc),
+            parts: Vec::new(alloc),
+            bytes: Vec::new(alloc),
         }
     }
 
-    /// Adds an item that comes behind all others.
-    pub fn push(&mut self, item: Bytes) -> Result<(), NoMemory>
-        requires { IsRising (self.old ++ item ∷ []) }
-        ensures ok { OnOk result (self.new ≡ self.old ++ item ∷ []) }
-        ensures err { OnErr result (self.new ≡ self.old) }
+    /// These strings in rising order, each once.
+    pub fn of(strings: Strings) -> Result<Items, NoMemory>
+        ensures { IfOk result (λ items. items ≡ rising_of strings) }
     {
-        self.items.push(item)?;
-        Ok(())
+        let Strings { mut parts, bytes } = strings;
+        arrange(&mut parts, bytes.as_slice())?;
+        Ok(Items { parts, bytes })
     }
 
-    pub fn as_slice(&self) -> &[Bytes]
-        ensures value { result.now ≡ self.now }
-        ensures rising { IsRising self.now }
+    /// The item at this place. None where there are no more.
+    pub fn get(&self, at: usize) -> Option<&[u8]>
+        ensures some { IfSome result (λ item. slice_get self.now at ≡ Some item.now) }
+        ensures none { IfNone result (length self.now ≤ at) }
     {
-        self.items.as_slice()
+        if at >= self.parts.len() {
+            return None;
+        }
+        Some(part_at(self.bytes.as_slice(), self.parts[at]))
     }
 
     pub fn len(&self) -> usize
-        ensures { result ≡ length self.now }
+        ensures value { result ≡ length self.now }
+        ensures rising { IsRising self.now }
     {
-        self.items.len()
+        self.parts.len()
     }
 }
 
-#[cfg(test)]
-mod tests {
-    use super::*;
-    use std::test::Fail;
-
-    #[test]
-    fn items_in_order(rt: HostRuntime) -> Result<(), Fail> {
-        let mut items = Items::new(rt.alloc());
-        assert_eq!(rt; items.len(), 0);
-        items.push(Bytes::from_slice(rt.alloc(), b"a")?)?;
-        assert_eq!(rt; items.len(), 1);
-        let first = items.as_slice().first().ok_or("an item")?;
-        assert_eq!(rt; first.as_slice(), b"a".as_slice());
-        Ok(())
-    }
+/// Brings parts into the order of their strings, each string once.
+fn arrange(parts: &mut Vec<Part>, bytes: &[u8]) -> Result<(), NoMemory>
+    ensures rising { OnOk result (IsRising (map (cut bytes.now) parts.new.items)) }
+    ensures value { OnOk result (map (cut bytes.now) parts.new.items ≡ rising_of (map (cut bytes.now) parts.old.items)) }
+{
+    parts.sort_by(|a, b| part_at(bytes, *a).cmp(part_at(bytes, *b)))?;
+    parts.dedup_by(|a, b| part_at(bytes, *a) == part_at(bytes, *b));
+    Ok(())
 }

@@ -6,8 +6,12 @@
 
 mod class;
 mod items;
+mod laws;
+mod strings;
 mod wanted;
 
 pub use class::GinClass;
 pub use items::Items;
+pub use laws::{made_rising, one_list};
+pub use strings::{Part, Strings};
 pub use wanted::{Mode, Wanted};

@@ -6,8 +6,8 @@ ghost use Rattle.std.specs.Str.{bytes_eq};
 ghost use Rattle.gx_gin_plain.specs.Holding.{is_in, is_posted, IsPosted, AreHeld, reached, isnt_no, is_found};
 
 use crate::postings::{Posting, Postings};
-use gx_bytes::{Bytes, NoMemory};
-use gx_gin::{GinClass, Mode, Wanted};
+use gx_bytes::NoMemory;
+use gx_gin::{GinClass, Items, Mode, Wanted};
 use gx_gist::Test;
 use std::alloc::Global;
 
@@ -48,12 +48,7 @@ fn finds<C: GinClass>(
     ensures { (items : List (List ℕ)) → IsPosted postings.now row items
         → IfOk result (λ found. found ≡ is_found (C.mode_of class.now query.now) (C.wanted_of class.now query.now) (C.passes_of class.now query.now) items) }
 {
-    let found = flags_of(
-        alloc,
-        postings.listed.as_slice(),
-        wanted.items.as_slice(),
-        row,
-    )?;
+    let found = flags_of(alloc, postings.listed.as_slice(), &wanted.items, row)?;
     let none = contains(postings.empty.as_slice(), row);
     let test = class.passes(query, found.as_slice());
     Ok(both(
@@ -66,28 +61,31 @@ fn finds<C: GinClass>(
 fn flags_of(
     alloc: Global,
     listed: &[Posting],
-    items: &[Bytes],
+    items: &Items,
     row: u64,
 ) -> Result<Vec<bool>, NoMemory>
     ensures { IfOk result (λ found. found.items ≡ map (is_posted listed.now row) items.now) }
 {
     let mut found = Vec::new(alloc);
-    for item in items {
-        found.push(is_posted(listed, item, row))?;
+    for at in 0..items.len() {
+        match items.get(at) {
+            Some(item) => found.push(is_posted(listed, item, row))?,
+            None => unreachable!(),
+        }
     }
     Ok(found)
 }
 
-fn is_posted(listed: &[Posting], item: &Bytes, row: u64) -> bool
+fn is_posted(listed: &[Posting], item: &[u8], row: u64) -> bool
     ensures { result ≡ is_posted listed.now row item.now }
 {
     listed.iter().any(|posting| stands(posting, item, row))
 }
 
-fn stands(posting: &Posting, item: &Bytes, row: u64) -> bool
+fn stands(posting: &Posting, item: &[u8], row: u64) -> bool
     ensures { result ≡ (bytes_eq posting.now.item item.now && is_in posting.now.rows.items row) }
 {
-    posting.item.as_slice() == item.as_slice() && contains(posting.rows.as_slice(), row)
+    posting.item.as_slice() == item && contains(posting.rows.as_slice(), row)
 }
 
 fn contains(rows: &[u64], row: u64) -> bool

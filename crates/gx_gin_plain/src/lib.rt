@@ -4,8 +4,6 @@
 
 mod find;
 mod postings;
-#[cfg(test)]
-mod tests;
 
 pub use find::search;
 pub use postings::{Posting, Postings};

@@ -2,6 +2,7 @@
 
 ghost use Rattle.std.specs.Prelude.{◌≡◌, ◌≢◌, ℕ, ◌≤◌, ◌↔◌, List, length, Bool, Contains, IsTrue, IfOk, MatchOption, if◌then◌else◌};
 ghost use Rattle.gx_gist.specs.Places.{IsRearrangement};
+ghost use Rattle.gx_gist.specs.Spelled.{SpellsNone, IsSpelled};
 ghost use Rattle.gx_gist.specs.declared.test.Test.{Test};
 ghost use Rattle.gx_gist.specs.declared.test.Test.TheVariants.{No, Yes};
 
@@ -12,7 +13,7 @@ use std::alloc::Global;
 /// A GiST operator class.
 ///
 /// Its calls are given valid classes, values, queries and keys, and give valid keys.
-pub trait GistClass {
+pub trait GistClass: Drop {
     /// What a column holds.
     type Value;
 
@@ -50,6 +51,9 @@ pub trait GistClass {
     // The places of the keys in an order that a split may cut.
     ghost ordered: { Self → List Self.Key → List ℕ → Type 0 };
 
+    // How much a key grows where another is united with it.
+    ghost growth: { Self → Self.Key → Self.Key → ℕ };
+
     // The bytes of a key.
     ghost spelling: { Self → Self.Key → List ℕ };
 
@@ -83,7 +87,8 @@ pub trait GistClass {
     fn penalty(&self, alloc: Global, key: &Self::Key, added: &Self::Key) -> Result<u128, NoMemory>
         requires class { valid self.now }
         requires key { valid_key self.now key.now }
-        requires added { valid_key self.now added.now };
+        requires added { valid_key self.now added.now }
+        ensures { IfOk result (λ penalty. penalty ≡ growth self.now key.now added.now) };
 
     /// The places of the keys in an order in which near keys stand together.
     fn order(&self, alloc: Global, keys: &Keys<Self::Key>) -> Result<Places, NoMemory>
@@ -107,8 +112,7 @@ pub trait GistClass {
     /// The key that these bytes spell, or None where they spell no key.
     fn read(&self, alloc: Global, bytes: &[u8]) -> Result<Option<Self::Key>, NoMemory>
         requires class { valid self.now }
-        ensures { IfOk result (λ found. MatchOption found ((key : Self.Key) → valid_key self.now key → bytes.now ≢ spelling self.now key)
-            (λ key. valid_key self.now key × (bytes.now ≡ spelling self.now key))) };
+        ensures { IfOk result (λ found. MatchOption found (SpellsNone (valid_key self.now) (spelling self.now) bytes.now) (IsSpelled (valid_key self.now) (spelling self.now) bytes.now)) };
 
     // Leaf keys and unions are valid.
     ghost leaf_is_valid: { (c : Self) (v : Self.Value) → valid c → valid_value c v → valid_key c (leaf_of c v) };

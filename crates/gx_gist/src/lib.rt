@@ -6,10 +6,14 @@
 
 mod class;
 mod lists;
+mod on_bytes;
+mod order;
 mod split;
 mod test;
 
 pub use class::GistClass;
 pub use lists::{Items, Keys, Places, Sizes};
+pub use on_bytes::OnBytes;
+pub use order::{Ranked, places_by_rank};
 pub use split::{Sides, picksplit};
 pub use test::Test;

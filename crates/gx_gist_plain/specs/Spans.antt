@@ -2,14 +2,10 @@
 use Rattle.std.specs.Prelude.{◌≡◌, ◌≢◌, ◌==◌, ℕ, ◌≤◌, min, max, Bool, true, false, ◌&&◌, nat_le, List, [], ◌∷◌, ◌++◌, length, Contains, All, if◌then◌else◌, refl}
 use Rattle.std.proofs.Common.{arith, inl, inr, subst, ap, add-zero, ◌+◌, zero, suc}
 use Rattle.std.specs.List.{range_with_len}
-use Rattle.std.proofs.lemmas.List.Elements.{All-cons, Contains-push_cases}
 use Rattle.std.proofs.lemmas.Bool.Decides.{nat_tests}
 use Rattle.gx_gist.specs.declared.test.Test.{Test}
 use Rattle.gx_gist.specs.declared.test.Test.TheVariants.{No, Maybe, Yes}
-use Rattle.gx_gist_plain.specs.declared.groups.Entry.{Entry}
-use Rattle.gx_gist_plain.specs.declared.groups.Group.{Group}
 use Rattle.gx_gist_plain.specs.declared.numbers.Span.{Span}
-use Rattle.gx_gist_plain.specs.Passing.{AreValid}
 
 abbrev pub span_of : ℕ → Span
 span_of v = record { lo = v; hi = v }
@@ -74,37 +70,6 @@ same_span a b same =
     let hi : a.hi ≡ b.hi = cc in
     λ i. record { lo = lo i; hi = hi i }
 
--- each key is valid
-abbrev pub AreSpans : List Span → Type 0
-AreSpans keys = (k : Span) → Contains keys k → k.lo ≤ k.hi
-
-pub one_more : (keys : List Span) (k : Span) → AreSpans keys → k.lo ≤ k.hi → AreSpans (keys ++ k ∷ [])
-one_more keys k all valid x has = elim (Contains-push_cases keys k x has) [ inl before ↦ all x before | inr same ↦ subst (λ (s : Span). s.lo ≤ s.hi) same valid ]
-
-pub no_spans : AreSpans []
-no_spans k has = absurd (omega (arith, has.1))
-
-pub tens : All (λ size. size ≤ 1922) (10 ∷ 10 ∷ 10 ∷ 10 ∷ [])
-tens = All-cons (λ size. size ≤ 1922) 10 (10 ∷ 10 ∷ 10 ∷ []) (omega arith) (All-cons (λ size. size ≤ 1922) 10 (10 ∷ 10 ∷ []) (omega arith)
-    (All-cons (λ size. size ≤ 1922) 10 (10 ∷ []) (omega arith) (All-cons (λ size. size ≤ 1922) 10 [] (omega arith) (λ k d h. absurd (omega (arith, h))))))
-
 pub range_more : (a n : ℕ) → range_with_len a (suc n) ≡ range_with_len a n ++ (a + n) ∷ []
 range_more a zero = rw add-zero refl
 range_more a (suc n) = let next : a + 1 + n ≡ a + suc n = omega arith in rw (← next) (ap (λ (xs : List ℕ). a ∷ xs) (range_more (a + 1) n))
-
-abbrev pub IsValidSpan : Span → Type 0
-IsValidSpan k = k.lo ≤ k.hi
-
--- each entry has a valid key
-abbrev pub AreEntries : List (Entry Span) → Type 0
-AreEntries entries = (e : Entry Span) → Contains entries e → IsValidSpan e.key
-
-pub entry_more : (entries : List (Entry Span)) (e : Entry Span) → AreEntries entries → IsValidSpan e.key → AreEntries (entries ++ e ∷ [])
-entry_more entries e all valid x has = elim (Contains-push_cases entries e x has) [ inl before ↦ all x before | inr same ↦ subst (λ (d : Entry Span). IsValidSpan d.key) same valid ]
-
-pub no_entries : AreEntries []
-no_entries e has = absurd (omega (arith, has.1))
-
-pub one_group : (group x : Group Span) → AreValid IsValidSpan group → Contains (group ∷ []) x → AreValid IsValidSpan x
-one_group group x valid (zero, below, is) = subst (AreValid IsValidSpan) is valid
-one_group group x valid (suc k, below, is) = absurd (omega (arith, below))

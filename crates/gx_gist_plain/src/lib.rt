@@ -5,8 +5,6 @@
 mod find;
 mod groups;
 mod numbers;
-#[cfg(test)]
-mod tests;
 
 pub use find::{Found, search};
 pub use groups::{Entry, Group, bound};

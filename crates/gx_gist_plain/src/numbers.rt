@@ -5,7 +5,7 @@ ghost use Rattle.gx_gist.specs.Places.{IsRearrangement};
 ghost use Rattle.gx_gist_plain.specs.Spans.{span_of, joined, IsOverSpan, at_leaf, above_leaf, spelled, valid_span, union_valid, over_self, over_left, over_right, inner_span, leaf_span, sure_span, same_span, short_span};
 
 use gx_bytes::{Bytes, NoMemory};
-use gx_gist::{GistClass, Keys, Places, Test};
+use gx_gist::{GistClass, Keys, OnBytes, Places, Test};
 use std::alloc::{AllocError, Global};
 
 /// A key.
@@ -47,6 +47,8 @@ impl GistClass for Numbers {
     ghost inner_test = { λ _ k q. above_leaf k q };
 
     ghost ordered = { λ _ keys places. IsRearrangement places (length keys) };
+
+    ghost growth = { λ _ _ _. 0 };
 
     ghost spelling = { λ _ k. spelled k };
 
@@ -130,6 +132,8 @@ impl GistClass for Numbers {
 
     ghost short_spelling = { λ _ k _ _. short_span k };
 }
+
+impl OnBytes for Numbers {}
 
 fn places(alloc: Global, count: usize) -> Result<Places, NoMemory>
     ensures { IfOk result (λ places. IsRearrangement places count) }

@@ -2,7 +2,7 @@
 use Rattle.std.proofs.Common.{refl, ◌≡◌, ◌≢◌, sym, ◌∙◌, Bool, true, false, ℕ, ◌*◌, ◌/◌, ◌%◌, ◌^◌, ◌<◌, ◌≤◌, ◌⊎◌, ◌↔◌, ◌==◌, inl, inr, nat_lt, IsTrue, List, length, get_or, bit_or, bit_and, slice_set, w8, arith}
 use Rattle.std.proofs.lemmas.Bool.Decides.{nat_tests}
 use Rattle.std.proofs.lemmas.List.{get_or-set_same, get_or-set_other}
-use Rattle.std.proofs.lemmas.Nat.{mod_below}
+use Rattle.std.proofs.lemmas.Nat.{mod_below, pow_below}
 use Rattle.std.proofs.lemmas.Nat.Bits.{bit_at_set_same, bit_at_set_other, shr_and_one}
 use Rattle.gx_sig.specs.BitSets.{bit_of, HasBit}
 
@@ -54,3 +54,6 @@ added bs p b h = (
   λ has. elim (same_or_not b p) [ inl e ↦ inl e | inr apart ↦ inr (sym (set_other bs p b h apart) ∙ has) ],
   elim [ inl e ↦ (rw e (set_same bs p h)) | inr has ↦ elim (same_or_not b p) [ inl e ↦ (rw e (set_same bs p h)) | inr apart ↦ set_other bs p b h apart ∙ has ] ],
 )
+
+pub one_bit : (p : ℕ) → 1 * 2 ^ (p % 8) % 2 ^ 8 ≡ 2 ^ (p % 8)
+one_bit p = let small = pow_below (p % 8) 8 (omega arith) in omega (arith, small)

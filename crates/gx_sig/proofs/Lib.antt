@@ -1,3 +1,3 @@
-mod Bits
-mod Bytes
-mod Ones
+pub mod Bits
+pub mod Bytes
+pub mod Ones

@@ -1,8 +1,8 @@
 //! Signatures of a fixed number of bytes, as sets of bits. A hash stands for the bit that is its remainder by the number of bits.
 #![tactic(auto)]
 
-ghost use Rattle.std.specs.Prelude.{◌≡◌, ◌≢◌, ◌↔◌, ℕ, ◌+◌, ◌*◌, ◌%◌, ◌<◌, List, length, IfSome, IsNone, IsTrue, ◌⊎◌};
-ghost use Rattle.gx_sig.specs.BitSets.{HasBit, differing, IsSignatureLength, OneSpelling};
+ghost use Rattle.std.specs.Prelude.{◌≡◌, ◌≢◌, ◌↔◌, ℕ, ◌+◌, ◌*◌, ◌%◌, ◌<◌, List, length, replicate, IfSome, IsNone, IsTrue, ◌⊎◌};
+ghost use Rattle.gx_sig.specs.BitSets.{HasBit, with_bit, both, differing, IsSignatureLength, OneSpelling, WithBitHas, BothHave, AreSignatures};
 
 use std::marker::Model;
 
@@ -25,6 +25,7 @@ impl<const N: usize> Sig<N> {
     pub fn empty() -> Self
         requires { IsSignatureLength N }
         ensures length { length result ≡ N }
+        ensures value { result ≡ replicate N 0 }
         ensures bits { (b : ℕ) → HasBit result b → ⊥ }
     {
         Sig { bytes: [0; N] }
@@ -33,6 +34,7 @@ impl<const N: usize> Sig<N> {
     /// Adds the bit of a hash.
     pub fn set(&mut self, hash: u32)
         ensures length { length self.new ≡ N }
+        ensures value { self.new ≡ with_bit self.old (hash % (8 * N)) }
         ensures bits { (b : ℕ) → HasBit self.new b ↔ ((b ≡ hash % (8 * N)) ⊎ HasBit self.old b) }
     {
         let bit = self.bit(hash);
@@ -51,6 +53,7 @@ impl<const N: usize> Sig<N> {
     /// The bits of both.
     pub fn union(&self, other: &Self) -> Self
         ensures length { length result ≡ N }
+        ensures value { result ≡ both self.now other.now }
         ensures bits { (b : ℕ) → HasBit result b ↔ (HasBit self.now b ⊎ HasBit other.now b) }
     {
         let mut bytes = [0; N];
@@ -115,56 +118,9 @@ pub fn one_spelling()
     ensures { OneSpelling }
 {}
 
-#[cfg(test)]
-mod tests {
-    use super::*;
-    use std::test::Fail;
-
-    #[test]
-    fn bits_of_hashes(rt: HostRuntime) -> Result<(), Fail> {
-        // Hash, byte and value of the one bit that it sets among 32.
-        let rows = [
-            (0, 0, 1),
-            (7, 0, 128),
-            (8, 1, 1),
-            (31, 3, 128),
-            (32, 0, 1),
-            (33, 0, 2),
-            (4_294_967_295, 3, 128),
-        ];
-        for (hash, byte, value) in rows {
-            let mut sig = Sig::<4>::empty();
-            assert!(rt; !sig.has(hash));
-            sig.set(hash);
-            assert!(rt; sig.has(hash));
-            assert_eq!(rt; sig.bytes().get(byte), Some(&value));
-            assert_eq!(rt; sig.distance(&Sig::empty()), 1);
-        }
-        Ok(())
-    }
-
-    #[test]
-    fn sets_of_two(rt: HostRuntime) -> Result<(), Fail> {
-        let a = Sig::<4>::from(&[1, 0, 0, 0x80]).ok_or("four bytes")?;
-        let b = Sig::<4>::from(&[3, 0, 0, 0]).ok_or("four bytes")?;
-        let both = a.union(&b);
-        assert_eq!(rt; both.bytes(), [3, 0, 0, 0x80].as_slice());
-        assert!(rt; both.contains(&a));
-        assert!(rt; !a.contains(&both));
-        assert_eq!(rt; a.distance(&b), 2);
-        assert!(rt; Sig::<8>::from(&[1, 2, 3]).is_none());
-        Ok(())
-    }
-
-    #[test]
-    fn each_length(rt: HostRuntime) {
-        let mut long = Sig::<252>::empty();
-        long.set(2015);
-        assert!(rt; long.has(4031));
-        assert_eq!(rt; Sig::<128>::empty().bytes().len(), 128);
-        assert_eq!(rt; Sig::<64>::empty().bytes().len(), 64);
-        assert_eq!(rt; Sig::<32>::empty().bytes().len(), 32);
-        assert_eq!(rt; Sig::<28>::empty().bytes().len(), 28);
-        assert_eq!(rt; Sig::<16>::empty().bytes().len(), 16);
-    }
-}
+/// Which bits changed bytes have, and that they are still a signature.
+pub fn bits_of_bytes()
+    ensures with_bit { WithBitHas }
+    ensures both { BothHave }
+    ensures signatures { AreSignatures }
+{}

@@ -1,6 +1,6 @@
 use Rattle.std.proofs.Common.{ap, ◌∙◌, arith}
 use Rattle.std.specs.Int.{w128, from_be_bytes}
-use Rattle.gx_scalar.proofs.SixteenBytes.{written_16}
+use Rattle.gx_bytes.proofs.SixteenBytes.{written_16}
 use Rattle.gx_class_scalar.proofs.read.sixteen.Goals as goal
 
 pub returns : goal.returns

@@ -1,0 +1,2 @@
+pub mod ValidKeys
+pub mod Words

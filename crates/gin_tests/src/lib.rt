@@ -1,0 +1,5 @@
+//! Tests of the public calls of the crates below GIN.
+#![tactic(auto)]
+
+#[cfg(test)]
+mod posting;

@@ -1,0 +1,7 @@
+pub mod Keys
+pub mod Bits
+pub mod Tests
+pub mod Growths
+pub mod Sorting
+pub mod Laws
+pub mod Spellings

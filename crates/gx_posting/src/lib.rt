@@ -1,0 +1,10 @@
+//! Posting lists: rows by rising numbers, as bytes.
+#![tactic(auto)]
+
+mod laws;
+mod read;
+mod write;
+
+pub use laws::one_list;
+pub use read::read_posting;
+pub use write::push_posting;
