@@ -10,6 +10,3 @@ mod top;
 
 pub use law::one_cut;
 pub use top::run;
-
-#[cfg(test)]
-mod tests;

@@ -2,10 +2,10 @@
 
 ghost use Rattle.std.specs.Prelude.{◌≡◌, ◌<◌};
 
-use crate::run;
 use gx_disk::{Host, MemoryHost};
 use gx_io::{Failed, MemorySource, Source};
 use gx_pages::Steps;
+use gx_run::run;
 use std::alloc::Global;
 use std::marker::Brand;
 use std::sync::ledger::{Blank, Ledger};

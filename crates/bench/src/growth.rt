@@ -1,5 +1,4 @@
-//! How the time of operators grows with the size of their values. Run it with a word to time it.
-#![tactic(auto)]
+//! How the time of operators grows with the size of their values.
 
 ghost use Rattle.std.specs.Prelude.{IfOk};
 ghost use Rattle.gx_json.specs.Tree.{data_of};
@@ -10,22 +9,20 @@ use gx_hstore::Hstore;
 use gx_intarr::IntArray;
 use gx_json::Json;
 use std::alloc::Global;
+use std::io;
 use std::rt::Clock;
 use std::time::Instant;
-use std::{env, io};
 
 const ROUNDS: u32 = 10;
 
-fn main(rt: HostRuntime) -> io::Result<()> {
-    if env::args(&rt)?.count() < 2 {
-        println!(rt; "type_speed: give a word to time operators on values that grow tenfold")?;
-        return Ok(());
-    }
-    println!(rt; "microseconds for {ROUNDS} calls, each on two equal values of so many entries")?;
+pub fn run<R: Clock + Print + AllocGlobal>(rt: &R) -> io::Result<()> {
+    println!(rt;
+        "growth: microseconds for {ROUNDS} calls, each on two equal values of so many entries"
+    )?;
     for size in [2_000, 20_000, 200_000] {
-        arrays(&rt, rt.alloc(), size)?;
-        maps(&rt, rt.alloc(), size)?;
-        documents(&rt, rt.alloc(), size)?;
+        arrays(rt, rt.alloc(), size)?;
+        maps(rt, rt.alloc(), size)?;
+        documents(rt, rt.alloc(), size)?;
     }
     Ok(())
 }

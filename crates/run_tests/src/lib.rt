@@ -1,0 +1,5 @@
+//! Worked examples of the public calls of the run.
+#![tactic(auto)]
+
+#[cfg(test)]
+mod scripts;
