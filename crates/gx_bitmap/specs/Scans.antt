@@ -1,5 +1,5 @@
 -- Walks over lists of rows.
-use Rattle.std.specs.Prelude.{◌≡◌, ℕ, ◌+◌, ◌==◌, Bool, false, List, [], ◌∷◌, ◌||◌, if◌then◌else◌, Option, Some, None}
+use Rattle.std.specs.Prelude.{◌≡◌, ℕ, ◌==◌, Bool, false, List, [], ◌∷◌, ◌||◌, Option, Some, None}
 use Rattle.std.specs.List.{AllByRecursion}
 use Rattle.gx_words.specs.PageMap.{PageMap}
 use Rattle.gx_pages.specs.declared.row.RowRef.{RowRef}
@@ -32,8 +32,3 @@ IsKept map (Some page) = map page.number ≡ Some (spelling page.slots)
 abbrev pub kept_page : Option KeptPage → ℕ
 kept_page None = 0
 kept_page (Some page) = page.number
-
--- how often the rows' page changes, where the page before them was this one
-abbrev pub turns : ℕ → List RowRef → ℕ
-turns page [] = 0
-turns page (row ∷ rows) = if row.page == page then turns page rows else 1 + turns row.page rows

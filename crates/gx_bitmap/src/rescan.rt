@@ -3,8 +3,8 @@
 ghost use Rattle.std.specs.Prelude.{◌≡◌, ◌≢◌, ℕ, ◌+◌, ◌<◌, ◌≤◌, Bool, List, [], ◌∷◌, ◌++◌, None, true, filter, length, option_to_list, IfOk, IfErr, IfSome, OnOk};
 ghost use Rattle.gx_pages.specs.Footprints.{StaysQuiet};
 ghost use Rattle.gx_pages.specs.Pages.{HasCause};
-ghost use Rattle.gx_heap.specs.Heaps.{Row, HoldsHeap, AreRows, refs};
-ghost use Rattle.gx_bitmap.specs.Scans.{AreCandidates, IsKept, kept_page, turns};
+ghost use Rattle.gx_heap.specs.Heaps.{Row, HoldsHeap, AreRows, turns};
+ghost use Rattle.gx_bitmap.specs.Scans.{AreCandidates, IsKept, kept_page};
 
 use gx_bytes::{Bytes, NoMemory};
 use gx_heap::Heap;

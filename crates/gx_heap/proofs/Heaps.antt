@@ -72,7 +72,7 @@ module _ {P : Type 0} (g : Ghosts P) (old new : P) (heap longer : Heap) (page sl
   pub grown_heap : (later : List Link) (rest : List ℕ) → HoldsBeside g new 2 (chain_of longer) later rest
       → entries_of later ≡ entries_of held.links ++ record { page = page; slot = slot; item = item } ∷ []
       → KeepsPages g old new (pages_of held.links) free (pages_of later) rest
-      → (after left : List ℕ) × HoldsHeap g new longer (rows ++ (record { number = heap.next; page = page; slot = slot }, row) ∷ []) after left × KeepsPages g old new feet_old free after left
+      → HoldsHeap g new longer (rows ++ (record { number = heap.next; page = page; slot = slot }, row) ∷ []) (pages_of later) rest × KeepsPages g old new feet_old free (pages_of later) rest
   grown_heap later rest then more keeps =
       let at : Row = (record { number = heap.next; page = page; slot = slot }, row) in
       let spelled : rows ++ at ∷ [] ≡ rows_of later =
@@ -80,8 +80,6 @@ module _ {P : Type 0} (g : Ghosts P) (old new : P) (heap longer : Heap) (page sl
       ∙ ap (λ (r : Row). rows_of held.links ++ r ∷ []) (sym (row_back page slot heap.next item row fits is))
       ∙ sym (map-append row_of (entries_of held.links) (record { page = page; slot = slot; item = item } ∷ [])) ∙ ap (λ (l : List Entry). map row_of l) (sym more) in
       let refs_more : refs (rows ++ at ∷ []) ≡ refs rows ++ at.0 ∷ [] = map-append (λ (r : Row). r.0) rows (at ∷ []) in (
-        pages_of later,
-        rest,
         record {
           links = later;
           held = then;
