@@ -1,16 +1,11 @@
 -- Walks over lists of rows.
-use Rattle.std.specs.Prelude.{◌≡◌, ℕ, ◌==◌, Bool, false, List, [], ◌∷◌, ◌||◌, Option, Some, None}
+use Rattle.std.specs.Prelude.{◌≡◌, ℕ, List, Option, Some, None}
 use Rattle.std.specs.List.{AllByRecursion}
 use Rattle.gx_words.specs.PageMap.{PageMap}
 use Rattle.gx_pages.specs.declared.row.RowRef.{RowRef}
 use Rattle.gx_slot.specs.Slots.{spelling}
 use Rattle.gx_heap.specs.Heaps.{Row, IsIn, refs}
 use Rattle.gx_bitmap.specs.declared.rescan.KeptPage.{KeptPage}
-
--- the row's number is that of one of these
-abbrev pub is_among : RowRef → List RowRef → Bool
-is_among row [] = false
-is_among row (other ∷ rows) = (other.number == row.number) || is_among row rows
 
 -- What is left of a walk over rows: the rows, the test, and the page that is kept.
 pub record Scan (K : Type 0) : Type 0 where

@@ -1,5 +1,5 @@
 -- Where one more row stands.
-use Rattle.std.proofs.Common.{◌≡◌, ◌⊎◌, inl, inr, ⊎_elim, ℕ, ◌+◌, ◌≤◌, List, [], ◌∷◌, ◌++◌, length, Option, Some, refl, sym, ◌∙◌, ap, subst, arith}
+use Rattle.std.proofs.Common.{◌≡◌, inl, inr, ⊎_elim, ℕ, ◌+◌, ◌≤◌, List, [], ◌∷◌, ◌++◌, length, Option, Some, refl, sym, ◌∙◌, ap, subst, arith}
 use Rattle.gx_words.specs.PageMap.{PageMap}
 use Rattle.gx_slot.specs.Slots.{Slots, Fits, spelling, taken}
 use Rattle.gx_chain.specs.Chains.{AreLinked, Adds, HasRoom, Holds, IsLink, Link, last_to, pages_of, slots}

@@ -1,5 +1,5 @@
 -- A row is read from its page.
-use Rattle.std.proofs.Common.{◌≡◌, ◌≤◌, ℕ, List, length, take, drop, Some, sym, ◌∙◌, ap, subst}
+use Rattle.std.proofs.Common.{◌≡◌, ◌≤◌, ℕ, List, length, take, drop, Some, ◌∙◌, ap, subst}
 use Rattle.gx_bytes.specs.Fields.{of64}
 use Rattle.gx_pages.specs.declared.store.Pages.{Ghosts}
 use Rattle.gx_pages.specs.declared.row.RowRef.{RowRef}

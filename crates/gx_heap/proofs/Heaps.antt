@@ -1,9 +1,8 @@
 -- A heap on its pages: a row is added, rows are removed.
-use Rattle.std.proofs.Common.{◌≡◌, ◌≢◌, ◌⊎◌, inl, inr, ⊎_elim, ℕ, ◌+◌, ◌^◌, ◌<◌, ◌≤◌, zero, suc, List, [], ◌∷◌, ◌++◌, length, map, take, drop, Option, Some, None, refl, sym, ◌∙◌, ap, subst, length-append, arith}
+use Rattle.std.proofs.Common.{◌≡◌, ℕ, ◌+◌, ◌^◌, ◌<◌, ◌≤◌, zero, suc, List, [], ◌∷◌, ◌++◌, length, map, take, drop, refl, sym, ◌∙◌, ap, subst, length-append, arith}
 use Rattle.std.specs.List.{AllByRecursion}
 use Rattle.std.proofs.lemmas.List.{map-append}
 use Rattle.gx_bytes.specs.Fields.{le64, of64, length-le64, of64-le64}
-use Rattle.gx_words.specs.PageMap.{PageMap}
 use Rattle.gx_pages.specs.declared.store.Pages.{Ghosts}
 use Rattle.gx_pages.specs.declared.row.RowRef.{RowRef}
 use Rattle.gx_pages.specs.Footprints.{KeepsPages}
@@ -11,7 +10,7 @@ use Rattle.gx_pages.specs.Rows.{IsRising}
 use Rattle.gx_pages.proofs.Footprints as feet
 use Rattle.gx_chain.specs.declared.chain.Chain.{Chain}
 use Rattle.gx_chain.specs.declared.entry.Entry.{Entry}
-use Rattle.gx_chain.specs.Chains.{Link, Holds, HoldsBeside, entries_of, pages_of}
+use Rattle.gx_chain.specs.Chains.{Link, HoldsBeside, entries_of, pages_of}
 use Rattle.gx_heap.specs.declared.heap.Heap.{Heap}
 use Rattle.gx_heap.specs.Heaps.{Row, HoldsHeap, chain_of, refs, row_of, rows_of}
 

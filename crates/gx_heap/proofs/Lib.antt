@@ -1,6 +1,6 @@
 mod Behind
 mod Entries
-mod Finds
+pub mod Finds
 mod Heaps
 mod Removes
 mod Rows

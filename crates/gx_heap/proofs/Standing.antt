@@ -1,12 +1,12 @@
 -- A heap stands where another structure was changed.
-use Rattle.std.proofs.Common.{◌≡◌, ◌≢◌, ℕ, ◌+◌, ◌<◌, ◌≤◌, List, [], ◌∷◌, ◌++◌, length, ◌∙◌, sym, ap, arith}
+use Rattle.std.proofs.Common.{◌≡◌, ◌≢◌, ℕ, ◌<◌, List, [], ◌∷◌, ◌++◌, length, ◌∙◌, sym, ap, arith}
 use Rattle.std.specs.List.{AllByRecursion}
 use Rattle.gx_pages.specs.declared.store.Pages.{Ghosts}
 use Rattle.gx_pages.specs.Frees.{IsApart}
 use Rattle.gx_pages.specs.Footprints.{IsOutside, KeepsPages, grown}
 use Rattle.gx_pages.proofs.Footprints as feet
 use Rattle.gx_chain.specs.declared.chain.Chain.{Chain}
-use Rattle.gx_chain.specs.Chains.{Holds, HoldsBeside, Link, first_of, pages_of}
+use Rattle.gx_chain.specs.Chains.{HoldsBeside, Link, first_of, pages_of}
 use Rattle.gx_chain.proofs.Links.{each_left, ends_of, linked_some, linked_stays, pages_end}
 use Rattle.gx_heap.specs.declared.heap.Heap.{Heap}
 use Rattle.gx_heap.specs.Heaps.{Row, HoldsHeap, chain_of}

@@ -1,8 +1,7 @@
-use Rattle.std.proofs.Common.{◌≡◌, ◌+◌, ◌<◌, ◌≤◌, rules, List, ℕ, [], ◌∷◌, ◌++◌, length, refl, sym, ◌∙◌, ap, subst, append_assoc, append-nil, length-append, arith}
+use Rattle.std.proofs.Common.{◌≡◌, ◌<◌, rules, List, [], ◌∷◌, ◌++◌, length, refl, sym, ◌∙◌, ap, subst, append_assoc, append-nil, arith}
 use Rattle.std.proofs.lemmas.Bool.{eqb-true}
 use Rattle.std.proofs.lemmas.Result.{err_from_is_err_and}
 use Rattle.gx_pages.specs.declared.row.RowRef.{RowRef}
-use Rattle.gx_pages.specs.Footprints.{KeepsPages}
 use Rattle.gx_pages.specs.Rows.{IsRising}
 use Rattle.gx_pages.proofs.Footprints.{cause_weaker, keeps_join, keeps_none, quiet_join, quiet_none}
 use Rattle.gx_heap.specs.Heaps.{Row, AreRows, HoldsHeap, runs, without}
