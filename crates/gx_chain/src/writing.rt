@@ -22,6 +22,7 @@ pub fn put_slots<P: Pages>(pages: &mut P, page: u64, from: &SlotPage) -> Result<
     ensures same { OnErr result (P.map pages.new ≡ P.map pages.old) }
     ensures count { P.count pages.new ≡ P.count pages.old }
     ensures heap { P.heap_fetches pages.new ≡ P.heap_fetches pages.old }
+    ensures fetches { P.fetches pages.new ≡ P.fetches pages.old }
     ensures quiet { StaysQuiet P.Pages pages.old pages.new }
 {
     pages.put(page, from.page())?;

@@ -1,9 +1,8 @@
 -- A heap on its pages: a row is added, rows are removed.
-use Rattle.std.proofs.Common.{◌≡◌, ◌≢◌, ◌⊎◌, inl, inr, ⊎_elim, ℕ, ◌+◌, ◌^◌, ◌<◌, ◌≤◌, zero, suc, List, [], ◌∷◌, ◌++◌, length, map, take, drop, Option, Some, None, refl, sym, ◌∙◌, ap, subst, length-append, arith}
+use Rattle.std.proofs.Common.{◌≡◌, ℕ, ◌+◌, ◌^◌, ◌<◌, ◌≤◌, zero, suc, List, [], ◌∷◌, ◌++◌, length, map, take, drop, refl, sym, ◌∙◌, ap, subst, length-append, arith}
 use Rattle.std.specs.List.{AllByRecursion}
 use Rattle.std.proofs.lemmas.List.{map-append}
 use Rattle.gx_bytes.specs.Fields.{le64, of64, length-le64, of64-le64}
-use Rattle.gx_words.specs.PageMap.{PageMap}
 use Rattle.gx_pages.specs.declared.store.Pages.{Ghosts}
 use Rattle.gx_pages.specs.declared.row.RowRef.{RowRef}
 use Rattle.gx_pages.specs.Footprints.{KeepsPages}
@@ -11,7 +10,7 @@ use Rattle.gx_pages.specs.Rows.{IsRising}
 use Rattle.gx_pages.proofs.Footprints as feet
 use Rattle.gx_chain.specs.declared.chain.Chain.{Chain}
 use Rattle.gx_chain.specs.declared.entry.Entry.{Entry}
-use Rattle.gx_chain.specs.Chains.{Link, Holds, HoldsBeside, entries_of, pages_of}
+use Rattle.gx_chain.specs.Chains.{Link, HoldsBeside, entries_of, pages_of}
 use Rattle.gx_heap.specs.declared.heap.Heap.{Heap}
 use Rattle.gx_heap.specs.Heaps.{Row, HoldsHeap, chain_of, refs, row_of, rows_of}
 
@@ -72,7 +71,7 @@ module _ {P : Type 0} (g : Ghosts P) (old new : P) (heap longer : Heap) (page sl
   pub grown_heap : (later : List Link) (rest : List ℕ) → HoldsBeside g new 2 (chain_of longer) later rest
       → entries_of later ≡ entries_of held.links ++ record { page = page; slot = slot; item = item } ∷ []
       → KeepsPages g old new (pages_of held.links) free (pages_of later) rest
-      → (after left : List ℕ) × HoldsHeap g new longer (rows ++ (record { number = heap.next; page = page; slot = slot }, row) ∷ []) after left × KeepsPages g old new feet_old free after left
+      → HoldsHeap g new longer (rows ++ (record { number = heap.next; page = page; slot = slot }, row) ∷ []) (pages_of later) rest × KeepsPages g old new feet_old free (pages_of later) rest
   grown_heap later rest then more keeps =
       let at : Row = (record { number = heap.next; page = page; slot = slot }, row) in
       let spelled : rows ++ at ∷ [] ≡ rows_of later =
@@ -80,8 +79,6 @@ module _ {P : Type 0} (g : Ghosts P) (old new : P) (heap longer : Heap) (page sl
       ∙ ap (λ (r : Row). rows_of held.links ++ r ∷ []) (sym (row_back page slot heap.next item row fits is))
       ∙ sym (map-append row_of (entries_of held.links) (record { page = page; slot = slot; item = item } ∷ [])) ∙ ap (λ (l : List Entry). map row_of l) (sym more) in
       let refs_more : refs (rows ++ at ∷ []) ≡ refs rows ++ at.0 ∷ [] = map-append (λ (r : Row). r.0) rows (at ∷ []) in (
-        pages_of later,
-        rest,
         record {
           links = later;
           held = then;

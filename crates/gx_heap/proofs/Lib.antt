@@ -1,5 +1,9 @@
+mod Behind
 mod Entries
+pub mod Finds
 mod Heaps
 mod Removes
 mod Rows
+mod Runs
+mod Standing
 mod Sweeps

@@ -1,18 +1,14 @@
 -- Rows of one page are removed.
-use Rattle.std.proofs.Common.{◌≡◌, ◌≢◌, ◌⊎◌, inl, inr, ⊎_elim, ℕ, ◌+◌, ◌<◌, ◌≤◌, List, [], ◌∷◌, ◌++◌, length, take, drop, Option, Some, None, refl, sym, ◌∙◌, ap, subst, append_assoc, length-append, arith}
+use Rattle.std.proofs.Common.{◌≡◌, ◌≢◌, ℕ, ◌<◌, ◌≤◌, List, [], ◌∷◌, ◌++◌, length, Option, Some, refl, sym, ◌∙◌, ap, subst, length-append, arith}
 use Rattle.std.specs.List.{AllByRecursion}
-use Rattle.gx_bytes.specs.Fields.{of64}
-use Rattle.gx_words.specs.PageMap.{PageMap}
 use Rattle.gx_pages.specs.declared.store.Pages.{Ghosts}
 use Rattle.gx_pages.specs.declared.row.RowRef.{RowRef}
 use Rattle.gx_pages.specs.Footprints.{KeepsPages}
 use Rattle.gx_pages.specs.Frees.{IsApart}
 use Rattle.gx_pages.specs.Rows.{IsRising}
-use Rattle.gx_pages.proofs.Footprints as feet
-use Rattle.gx_slot.specs.Slots.{Slots, IsSlotPage, item_at}
-use Rattle.gx_chain.specs.declared.chain.Chain.{Chain}
+use Rattle.gx_slot.specs.Slots.{IsSlotPage, item_at}
 use Rattle.gx_chain.specs.declared.entry.Entry.{Entry}
-use Rattle.gx_chain.specs.Chains.{Link, Holds, HoldsBeside, AreLinked, entries_of, first_of, pages_of, slots}
+use Rattle.gx_chain.specs.Chains.{Link, HoldsBeside, entries_of, pages_of}
 use Rattle.gx_chain.proofs.Links.{mid_sound, pages_mid}
 use Rattle.gx_heap.specs.declared.heap.Heap.{Heap}
 use Rattle.gx_heap.specs.Heaps.{Row, HoldsHeap, AreRows, Empties, HasNoItem, IsIn, IsRef, chain_of, refs, rows_of, without}

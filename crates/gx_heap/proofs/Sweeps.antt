@@ -1,16 +1,16 @@
 -- A walk that gives the pages without items back.
-use Rattle.std.proofs.Common.{◌≡◌, ◌≢◌, ◌⊎◌, inl, inr, ⊎_elim, ℕ, ◌+◌, ◌<◌, ◌≤◌, zero, suc, take, List, [], ◌∷◌, ◌++◌, length, Option, Some, None, refl, sym, ◌∙◌, ap, subst, append_assoc, append-nil, length-append, arith}
+use Rattle.std.proofs.Common.{◌≡◌, ◌≢◌, ◌⊎◌, inl, inr, ⊎_elim, ℕ, ◌+◌, ◌<◌, ◌≤◌, List, [], ◌∷◌, ◌++◌, length, Option, Some, refl, sym, ◌∙◌, ap, subst, append_assoc, arith}
 use Rattle.std.specs.List.{AllByRecursion}
 use Rattle.gx_words.specs.PageMap.{PageMap}
 use Rattle.gx_pages.specs.declared.store.Pages.{Ghosts}
 use Rattle.gx_pages.specs.Footprints.{KeepsPages}
 use Rattle.gx_pages.specs.Frees.{IsApart, IsFreeList}
 use Rattle.gx_pages.proofs.Footprints as feet
-use Rattle.gx_slot.specs.Slots.{Slots, IsSlotPage, item_at}
+use Rattle.gx_slot.specs.Slots.{Slots, IsSlotPage}
 use Rattle.gx_chain.specs.declared.chain.Chain.{Chain}
 use Rattle.gx_chain.specs.declared.entry.Entry.{Entry}
-use Rattle.gx_chain.specs.Chains.{Link, Holds, HoldsBeside, HoldsNone, AreLinked, entries_at, entries_of, first_of, last_to, pages_of, slots}
-use Rattle.gx_chain.proofs.Entries.{entries_append, take_item, entries_more}
+use Rattle.gx_chain.specs.Chains.{Link, Holds, HoldsBeside, AreLinked, entries_at, entries_of, first_of, last_to, pages_of, slots}
+use Rattle.gx_chain.proofs.Entries.{entries_append}
 use Rattle.gx_chain.proofs.Links.{held_same, last_mid, linked_mid, linked_some, mid_sound, pages_mid}
 use Rattle.gx_heap.specs.Heaps.{AreFilled, IsFilled}
 

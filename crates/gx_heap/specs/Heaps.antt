@@ -1,14 +1,15 @@
 -- A heap: a list of rows by rising numbers, each in a slot of one of its pages.
-use Rattle.std.specs.Prelude.{◌≡◌, ◌≢◌, ◌⊎◌, ℕ, ◌+◌, ◌<◌, ◌≤◌, ◌==◌, not, slice_set, List, [], ◌∷◌, ◌++◌, length, map, take, drop, Option, Some, None}
+use Rattle.std.specs.Prelude.{◌≡◌, ◌≢◌, ◌⊎◌, ℕ, ◌+◌, ◌<◌, ◌≤◌, ◌==◌, if◌then◌else◌, not, slice_set, List, [], ◌∷◌, ◌++◌, length, map, take, drop, Option, Some, None}
 use Rattle.std.specs.List.{AllByRecursion, filter, flat_map}
 use Rattle.gx_bytes.specs.Fields.{of64}
 use Rattle.gx_pages.specs.declared.store.Pages.{Ghosts}
 use Rattle.gx_pages.specs.declared.row.RowRef.{RowRef}
 use Rattle.gx_pages.specs.Rows.{IsRising}
-use Rattle.gx_slot.specs.Slots.{item_at}
+use Rattle.gx_words.specs.PageMap.{PageMap}
+use Rattle.gx_slot.specs.Slots.{Fits, item_at, spelling, taken}
 use Rattle.gx_chain.specs.declared.chain.Chain.{Chain}
 use Rattle.gx_chain.specs.declared.entry.Entry.{Entry}
-use Rattle.gx_chain.specs.Chains.{Link, HoldsBeside, entries_at, entries_of, pages_of}
+use Rattle.gx_chain.specs.Chains.{Link, HoldsBeside, entries_at, entries_of, pages_of, slots}
 use Rattle.gx_heap.specs.declared.heap.Heap.{Heap}
 
 -- where a row stands, and its bytes
@@ -73,6 +74,26 @@ without (gone ∷ more) rows = without more (filter (λ row. not (row.0.number =
 -- each of these is a row of the heap
 abbrev pub AreRows : List RowRef → List Row → Type 0
 AreRows refs rows = AllByRecursion (λ at. IsRef at rows) refs
+
+-- how often the page changes from row to row, where the page before them was this one
+abbrev pub turns : ℕ → List RowRef → ℕ
+turns page [] = 0
+turns page (row ∷ rows) = if row.page == page then turns page rows else 1 + turns row.page rows
+
+-- how many runs of rows on one page there are
+abbrev pub runs : List RowRef → ℕ
+runs [] = 0
+runs (row ∷ rows) = 1 + turns row.page rows
+
+-- The heap's last page has room for one more row: 4 bytes in the table, 8 for its number, and its own.
+abbrev pub HasRoomFor : PageMap → Heap → List ℕ → Type 0
+HasRoomFor map heap row =
+    (items : List (Option (List ℕ))) × (map heap.last ≡ Some (spelling (slots 2 0 items))) × Fits (slots 2 0 items) × (taken items + (12 + length row) ≤ 8176)
+
+-- One more row stands on the last page where that has room for it, else on a new page behind the others.
+abbrev pub StandsBehind : PageMap → Heap → List ℕ → ℕ → List ℕ → List ℕ → Type 0
+StandsBehind map heap row page feet later =
+    (HasRoomFor map heap row × (page ≡ heap.last) × (later ≡ feet)) ⊎ ((¬ HasRoomFor map heap row) × (later ≡ feet ++ page ∷ []))
 
 -- a row stands on the page
 abbrev pub HasRow : List Row → ℕ → Type 0

@@ -1,12 +1,13 @@
 //! The rows of a table.
 
-ghost use Rattle.std.specs.Prelude.{◌≡◌, ◌≢◌, ℕ, ◌+◌, ◌^◌, ◌<◌, ◌≤◌, List, [], ◌∷◌, ◌++◌, length, IfOk, IfErr, OnOk, OnErr};
+ghost use Rattle.std.specs.Prelude.{◌≡◌, ◌≢◌, ℕ, ◌+◌, ◌^◌, ◌<◌, ◌≤◌, List, [], ◌∷◌, ◌++◌, length, Some, IfOk, IfErr, OnOk, OnErr};
 ghost use Rattle.gx_pages.specs.declared.row.RowRef.{RowRef};
 ghost use Rattle.gx_pages.specs.Footprints.{KeepsPages, StaysQuiet};
 ghost use Rattle.gx_pages.specs.Frees.{IsFreeList, IsFull};
 ghost use Rattle.gx_pages.specs.Pages.{HasCause};
+ghost use Rattle.gx_slot.specs.Slots.{IsBroken, spelling};
 ghost use Rattle.gx_chain.specs.Chains.{ListsNone};
-ghost use Rattle.gx_heap.specs.Heaps.{Row, HoldsHeap, HoldsNoHeap, AreRows, AreUsed, IsIn, IsRef, chain_of, first_page, rows_on, without};
+ghost use Rattle.gx_heap.specs.Heaps.{Row, HoldsHeap, HoldsNoHeap, AreRows, AreUsed, HasRoomFor, HasRow, IsIn, IsRef, StandsBehind, chain_of, first_page, rows_on, runs, without};
 
 use crate::item::{HEAP, item_of};
 use crate::reading::{item_at, no_row, push_rows};
@@ -15,6 +16,7 @@ use crate::vacuum::drop_empty;
 use gx_bytes::Bytes;
 use gx_chain::{Chain, fetch_slots};
 use gx_pages::{Bitmap, PageError, Pages, RowRef, Rows, Steps};
+use gx_slot::SlotPage;
 use std::alloc::Global;
 use std::sync::ledger::Ledger;
 
@@ -49,7 +51,8 @@ impl Heap {
         })
     }
 
-    /// Adds a row behind all others, with the next number.
+    /// Adds a row behind all others, with the next number. It stands on the last page where it has room there, else on a new
+    /// page.
     pub fn append<P: Pages, L: Ledger>(
         &mut self,
         alloc: Global,
@@ -61,7 +64,8 @@ impl Heap {
         requires room { self.old.next < 2 ^ 48 }
         ensures added { IfOk result (λ at. P.tells → (rows : List Row) (feet free : List ℕ) → HoldsHeap P.Pages pages.old self.old rows feet free
             → (later rest : List ℕ) × HoldsHeap P.Pages pages.new self.new (rows ++ (at, row.now) ∷ []) later rest
-            × KeepsPages P.Pages pages.old pages.new feet free later rest) }
+            × KeepsPages P.Pages pages.old pages.new feet free later rest
+            × StandsBehind (P.map pages.old) self.old row.now at.page feet later) }
         ensures number { IfOk result (λ at. at.number ≡ self.old.next) }
         ensures next { OnOk result (self.new.next ≡ self.old.next + 1) }
         ensures first { self.new.first ≡ self.old.first }
@@ -69,7 +73,9 @@ impl Heap {
         ensures grows { P.count pages.old ≤ P.count pages.new }
         ensures by_one { P.count pages.new ≤ P.count pages.old + 1 }
         ensures cause { IfErr result (HasCause (P.faults pages.old) (P.faults pages.new)
-            (λ at expected found. P.tells → HoldsNoHeap P.Pages pages.old self.old) (IsFull P.tells (P.map pages.new) (P.count pages.new)) (Unit {0})) }
+            (λ at expected found. P.tells → HoldsNoHeap P.Pages pages.old self.old)
+            (λ count. IsFull P.tells (P.map pages.new) (P.count pages.new) count
+            × (P.tells → (rows : List Row) (feet free : List ℕ) → HoldsHeap P.Pages pages.old self.old rows feet free → ¬ HasRoomFor (P.map pages.old) self.old row.now)) (Unit {0})) }
         ensures ticks { P.heap_fetches pages.new + steps.old ≤ P.heap_fetches pages.old + steps.new }
         ensures most { steps.new ≤ steps.old + 1 }
         ensures quiet { StaysQuiet P.Pages pages.old pages.new }
@@ -104,15 +110,55 @@ impl Heap {
         ensures count { P.count pages.new ≡ P.count pages.old }
         ensures ticks { P.heap_fetches pages.new + steps.old ≤ P.heap_fetches pages.old + steps.new }
         ensures most { steps.new ≤ steps.old + 1 }
+        ensures fetches { P.fetches pages.new ≤ P.fetches pages.old + 1 }
+        ensures quiet { StaysQuiet P.Pages pages.old pages.new }
+    {
+        let slots = self.page_of(pages, at.page, steps)?;
+        match Bytes::from_slice(alloc, self.row_in(pages, &slots, at)?) {
+            Ok(row) => Ok(row),
+            Err(_) => Err(PageError::Memory),
+        }
+    }
+
+    /// A page on which a row of the heap stands, to read rows from it by `row_in`.
+    pub fn page_of<P: Pages, L: Ledger>(
+        &self,
+        pages: &mut P,
+        page: u64,
+        steps: &mut Steps<L>,
+    ) -> Result<SlotPage, PageError>
+        ensures bytes { IfOk result (λ slots. P.tells → P.map pages.old page ≡ Some (spelling slots)) }
+        ensures nonzero { OnOk result (page ≢ 0) }
+        ensures cause { IfErr result (HasCause (P.faults pages.old) (P.faults pages.new)
+            (λ at expected found. P.tells → (rows : List Row) (feet free : List ℕ) → HoldsHeap P.Pages pages.old self.now rows feet free → ¬ HasRow rows page) (λ _. ⊥) ⊥) }
+        ensures map { P.map pages.new ≡ P.map pages.old }
+        ensures count { P.count pages.new ≡ P.count pages.old }
+        ensures ticks { P.heap_fetches pages.new + steps.old ≤ P.heap_fetches pages.old + steps.new }
+        ensures most { steps.new ≤ steps.old + 1 }
+        ensures fetches { P.fetches pages.new ≤ P.fetches pages.old + 1 }
         ensures quiet { StaysQuiet P.Pages pages.old pages.new }
     {
         steps.tick();
-        let slots = fetch_slots(pages, at.page, HEAP)?;
-        match item_at(&slots, at) {
-            Some(row) => match Bytes::from_slice(alloc, row) {
-                Ok(row) => Ok(row),
-                Err(_) => Err(PageError::Memory),
-            },
+        let slots = fetch_slots(pages, page, HEAP)?;
+        Ok(slots)
+    }
+
+    /// The bytes of a row on its page, where it lies on these pages.
+    pub fn row_in<'a, P: Pages>(
+        &self,
+        _pages: &P,
+        slots: &'a SlotPage,
+        at: RowRef,
+    ) -> Result<&'a [u8], PageError>
+        ensures found { IfOk result (λ row. P.tells → P.map _pages.now at.page ≡ Some (spelling slots.now) → (rows : List Row) (bytes feet free : List ℕ)
+            → HoldsHeap P.Pages _pages.now self.now rows feet free → IsIn (at, bytes) rows → row.now ≡ bytes) }
+        ensures broken { IfErr result (IsBroken at.page) }
+        ensures err { OnErr result (P.tells → P.map _pages.now at.page ≡ Some (spelling slots.now) → (rows : List Row) (feet free : List ℕ)
+            → HoldsHeap P.Pages _pages.now self.now rows feet free → ¬ IsRef at rows) }
+    {
+        let _page = slots.page();
+        match item_at(slots, at) {
+            Some(row) => Ok(row),
             None => Err(no_row(at)),
         }
     }
@@ -156,6 +202,7 @@ impl Heap {
             (λ at expected found. P.tells → (all : List Row) (feet free : List ℕ) → HoldsHeap P.Pages pages.old self.old all feet free → ¬ AreRows rows.now all) (λ _. ⊥) (Unit {0})) }
         ensures ticks { P.heap_fetches pages.new + steps.old ≤ P.heap_fetches pages.old + steps.new }
         ensures most { steps.new ≤ steps.old + length rows.now }
+        ensures fetches { P.fetches pages.new ≤ P.fetches pages.old + runs rows.now }
         ensures quiet { StaysQuiet P.Pages pages.old pages.new }
     {
         let mut rest = rows.as_slice();

@@ -7,7 +7,7 @@ ghost use Rattle.gx_pages.specs.Pages.{HasCause};
 ghost use Rattle.gx_pages.specs.Rows.{IsRising};
 ghost use Rattle.gx_slot.specs.Slots.{IsBroken};
 ghost use Rattle.gx_heap.specs.declared.heap.Heap.{Heap};
-ghost use Rattle.gx_heap.specs.Heaps.{Row, HoldsHeap, AreRows, Empties, HasNoItem, without};
+ghost use Rattle.gx_heap.specs.Heaps.{Row, HoldsHeap, AreRows, Empties, HasNoItem, runs, without};
 
 use crate::item::HEAP;
 use crate::reading::{item_at, no_row};
@@ -24,6 +24,7 @@ pub fn remove_run<'a, P: Pages, L: Ledger>(
 ) -> Result<&'a [RowRef], PageError>
     requires some { 0 < length rows.now }
     ensures fewer { IfOk result (λ rest. length rest.now < length rows.now) }
+    ensures run { IfOk result (λ rest. runs rows.now ≡ 1 + runs rest.now) }
     ensures removed { IfOk result (λ rest. P.tells → (heap : Heap) (all : List Row) (feet free : List ℕ) → HoldsHeap P.Pages pages.old heap all feet free → IsRising rows.now
         → AreRows rows.now all
         → (run : List RowRef) × (rows.now ≡ run ++ rest.now) × HoldsHeap P.Pages pages.new heap (without run all) feet free
@@ -34,6 +35,7 @@ pub fn remove_run<'a, P: Pages, L: Ledger>(
         → ¬ AreRows rows.now all) (λ _. ⊥) (Unit {0})) }
     ensures ticks { P.heap_fetches pages.new + steps.old ≤ P.heap_fetches pages.old + steps.new }
     ensures most { steps.new ≤ steps.old + 1 }
+    ensures fetches { P.fetches pages.new ≤ P.fetches pages.old + 1 }
     ensures quiet { StaysQuiet P.Pages pages.old pages.new }
 {
     let Some((first, _more)) = rows.split_first() else {

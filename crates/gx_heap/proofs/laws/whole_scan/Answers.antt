@@ -1,5 +1,5 @@
-use Rattle.std.proofs.Common.{ℕ, List, [], sym, ◌∙◌, ap}
-use Rattle.gx_heap.specs.Heaps.{Row, rows_in}
+use Rattle.std.proofs.Common.{[], sym, ◌∙◌}
+use Rattle.gx_heap.specs.Heaps.{rows_in}
 use Rattle.gx_heap.proofs.Entries.{rows_in_pages}
 use Rattle.gx_heap.proofs.laws.whole_scan.Goals as goal
 

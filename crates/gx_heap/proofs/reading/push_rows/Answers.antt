@@ -1,5 +1,4 @@
-use Rattle.std.proofs.Common.{◌<◌, ◌≡◌, ◌∙◌, ◌∷◌, [], ◌++◌, ℕ, List, inr, length, refl, sym, ap, arith}
-use Rattle.gx_heap.specs.Heaps.{Row}
+use Rattle.std.proofs.Common.{◌<◌, ◌∙◌, ◌∷◌, [], ◌++◌, inr, length, refl, sym, arith}
 use Rattle.gx_heap.proofs.Entries.{rows_none, rows_some, whole_on}
 use Rattle.gx_heap.proofs.reading.push_rows.Goals as goal
 use Rattle.gx_heap.proofs.reading.push_rows.Goals.{in-Some+in-Some-parts_of+in-Ok, in_default}

@@ -1,4 +1,4 @@
-use Rattle.std.proofs.Common.{◌≡◌, ◌≤◌, List, ℕ, Option, ◌∷◌, ◌++◌, sym, ◌∙◌, ap, subst, arith}
+use Rattle.std.proofs.Common.{◌≡◌, List, ℕ, Option, ◌∷◌, ◌++◌, sym, ◌∙◌, ap, subst, arith}
 use Rattle.std.proofs.lemmas.Result.{err_from_is_err_and}
 use Rattle.gx_pages.specs.declared.row.RowRef.{RowRef}
 use Rattle.gx_pages.specs.Rows.{IsRising}
@@ -9,6 +9,7 @@ use Rattle.gx_chain.proofs.Links.{broken_cause, held_same}
 use Rattle.gx_heap.specs.Heaps.{AreRows, Empties, IsRef, chain_of}
 use Rattle.gx_heap.proofs.Removes.{fewer, held_there, none_missed, page_sound, removed, spot}
 use Rattle.gx_heap.proofs.Rows.{still_rows}
+use Rattle.gx_heap.proofs.Runs.{empties_on, runs_cut}
 use Rattle.gx_heap.proofs.removal.remove_run.Goals as goal
 
 pub returns-in_err-slots-clause-cause : goal.returns-in_err-slots-clause-cause
@@ -45,6 +46,12 @@ pub returns-clause-fewer : goal.returns-clause-fewer
 returns-clause-fewer g c =
     let emptied = c.in_ok-rest.ensures.emptied in
     fewer c.args.rows.now c.in_ok-rest.rest.now emptied.0 c.in-Some.first.now c.in-Some._more.now emptied.1 c.in-Some.ensures.cases.0 c.in_ok-rest.ensures.stops
+
+pub returns-clause-run : goal.returns-clause-run
+returns-clause-run g c =
+    let emptied = c.in_ok-rest.ensures.emptied in
+    runs_cut c.args.rows.now emptied.0 c.in_ok-rest.rest.now c.in-Some.first.now c.in-Some._more.now emptied.1 c.in-Some.ensures.cases.0
+    (empties_on c.in-Some.first.now.page emptied.0 _ _ emptied.2) c.in_ok-rest.ensures.stops
 
 pub returns-clause-removed : goal.returns-clause-removed
 returns-clause-removed g c = λ tells heap all feet free held rising are.

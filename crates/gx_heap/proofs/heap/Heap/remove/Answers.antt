@@ -1,12 +1,12 @@
-use Rattle.std.proofs.Common.{◌≡◌, ◌+◌, ◌≤◌, List, ℕ, [], ◌∷◌, ◌++◌, length, refl, sym, ◌∙◌, ap, subst, append_assoc, append-nil, length-append, arith}
+use Rattle.std.proofs.Common.{◌≡◌, ◌<◌, rules, List, [], ◌∷◌, ◌++◌, length, refl, sym, ◌∙◌, ap, subst, append_assoc, append-nil, arith}
 use Rattle.std.proofs.lemmas.Bool.{eqb-true}
 use Rattle.std.proofs.lemmas.Result.{err_from_is_err_and}
 use Rattle.gx_pages.specs.declared.row.RowRef.{RowRef}
-use Rattle.gx_pages.specs.Footprints.{KeepsPages}
 use Rattle.gx_pages.specs.Rows.{IsRising}
 use Rattle.gx_pages.proofs.Footprints.{cause_weaker, keeps_join, keeps_none, quiet_join, quiet_none}
-use Rattle.gx_heap.specs.Heaps.{Row, AreRows, HoldsHeap, without}
+use Rattle.gx_heap.specs.Heaps.{Row, AreRows, HoldsHeap, runs, without}
 use Rattle.gx_heap.proofs.Rows.{rising_right, without_join}
+use Rattle.gx_heap.proofs.Runs.{some_runs}
 use Rattle.gx_heap.proofs.heap.Heap.remove.Goals as goal
 
 -- nothing is left of a list without elements
@@ -23,6 +23,7 @@ loop-rest-init g c =
       count = refl;
       ticks = omega arith;
       most = (let same = ap (λ (l : List RowRef). length l) value in omega (arith, same));
+      fetches = (let same = ap (λ (l : List RowRef). runs l) value in omega (arith, same));
       quiet = quiet_none g.P.Pages g.met.P.Pages.follows_itself c.args.pages.now;
     }
 
@@ -42,6 +43,7 @@ loop-rest-preserved g c = record {
   count = c.in_ok-rest.ensures.count ∙ c.loop-rest.invariant.count;
   ticks = (let before = c.loop-rest.invariant.ticks in let here = c.in_ok-rest.ensures.ticks in omega (arith, before, here));
   most = (let before = c.loop-rest.invariant.most in let here = c.in_ok-rest.ensures.most in let fewer = c.in_ok-rest.ensures.fewer in omega (arith, before, here, fewer));
+  fetches = (let before = c.loop-rest.invariant.fetches in let here = c.in_ok-rest.ensures.fetches in let run = c.in_ok-rest.ensures.run in omega (arith, before, here, run));
   quiet = quiet_join g.P.Pages g.met.P.Pages.follows_on c.args.pages.now c.loop-rest.pages c.remove_run.new.pages c.loop-rest.invariant.quiet c.in_ok-rest.ensures.quiet;
 }
 
@@ -63,3 +65,11 @@ returns-clause-removed g c = λ tells all feet free held are.
     let none : c.loop-rest.rest.now ≡ [] = none_left c.loop-rest.rest.now (let test = c.loop-rest-test.false in let is = c.is_empty.ensures in eqb-true (length c.loop-rest.rest.now) 0 (sym is ∙ test)) in
     let run : c.args.rows.now ≡ before.0 = before.1 ∙ ap (λ (l : List RowRef). before.0 ++ l) none ∙ append-nil before.0 in
     (subst (λ (l : List RowRef). HoldsHeap g.P.Pages c.loop-rest.pages c.args.self.now (without l all) feet free) (sym run) before.2, before.3)
+
+pub returns-in_err-rest-clause-fetches : goal.returns-in_err-rest-clause-fetches
+returns-in_err-rest-clause-fetches g c =
+    let before = c.loop-rest.invariant.fetches in
+    let here = c.in_err-rest.ensures.fetches in
+    let filled : 0 < length c.loop-rest.rest.now = search rules in
+    let some = some_runs c.loop-rest.rest.now filled in
+    omega (arith, before, here, some)

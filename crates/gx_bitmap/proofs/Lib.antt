@@ -1,0 +1,3 @@
+mod Merging
+mod Rising
+mod Walking

@@ -1,0 +1,8 @@
+//! Lists of rows: what is in both of two, what is in one of them, and those of whose bytes a test is true.
+#![tactic(auto)]
+
+mod merge;
+mod rescan;
+
+pub use merge::{and, or};
+pub use rescan::{KeptPage, Rescan, RowTest};
