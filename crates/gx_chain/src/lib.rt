@@ -13,4 +13,4 @@ pub use entry::Entry;
 pub use laws::one_chain;
 pub use reading::fetch_slots;
 pub use trail::Trail;
-pub use writing::put_slots;
+pub use writing::{is_empty, put_slots, remove_item, replace_item};
