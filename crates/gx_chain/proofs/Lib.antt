@@ -9,3 +9,4 @@ pub mod Unlinks
 pub mod Walks
 pub mod Slotted
 pub mod Spots
+pub mod Stays

@@ -13,7 +13,7 @@ use Rattle.gx_chain.specs.declared.entry.Entry.{Entry}
 use Rattle.gx_chain.specs.Chains.{Link, AreLinked, Holds, HoldsBeside, IsBehind, entries_at, entries_of, first_of, last_to, pages_of, slots}
 use Rattle.gx_chain.proofs.Entries.{entries_append}
 use Rattle.gx_chain.proofs.Links.{held_same, last_mid, linked_mid, mid_sound, pages_mid}
-use Rattle.gx_chain.proofs.Spots.{Spot, spot_of}
+use Rattle.gx_chain.proofs.Spots.{spot_of}
 
 -- the page of an item is read as it is
 pub spot_read : (map : PageMap) (count kind : ℕ) (chain : Chain) (links : List Link) (front back : List Entry) (page slot : ℕ) (item : List ℕ) (found : Slots)

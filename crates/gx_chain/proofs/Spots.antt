@@ -1,5 +1,5 @@
 -- The page and the slot of an item of a chain.
-use Rattle.std.proofs.Common.{◌≡◌, ◌≢◌, ◌⊎◌, inl, inr, ⊎_elim, ℕ, ◌+◌, zero, suc, List, [], ◌∷◌, ◌++◌, length, Option, Some, None, slice_set, refl, sym, ◌∙◌, ap, subst, append_assoc, arith}
+use Rattle.std.proofs.Common.{◌≡◌, ◌≢◌, ◌⊎◌, inl, inr, ⊎_elim, ℕ, ◌+◌, zero, suc, List, [], ◌∷◌, ◌++◌, Option, Some, None, slice_set, refl, sym, ◌∙◌, ap, append_assoc, arith}
 use Rattle.gx_slot.specs.Slots.{item_at}
 use Rattle.gx_chain.specs.declared.entry.Entry.{Entry}
 use Rattle.gx_chain.specs.Chains.{Link, entries_at, entries_of}

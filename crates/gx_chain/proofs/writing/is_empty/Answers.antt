@@ -1,4 +1,4 @@
-use Rattle.std.proofs.Common.{◌<◌, ◌≡◌, [], length, sym, arith}
+use Rattle.std.proofs.Common.{◌<◌, [], length, sym, arith}
 use Rattle.gx_chain.proofs.Entries.{entries_none}
 use Rattle.gx_chain.proofs.Spots.{filled_at}
 use Rattle.gx_chain.proofs.writing.is_empty.Goals as goal

@@ -1,8 +1,8 @@
-use Rattle.std.proofs.Common.{◌≡◌, ◌+◌, ◌≤◌, List, ℕ, [], ◌∷◌, ◌++◌, Option, Some, None, not, refl, sym, ◌∙◌, ap, subst, arith}
+use Rattle.std.proofs.Common.{None, not, ◌∙◌, ap, arith}
 use Rattle.std.proofs.lemmas.Result.{err_from_is_err_and}
 use Rattle.gx_pages.proofs.Footprints.{cause_weaker}
 use Rattle.gx_chain.proofs.Links.{broken_cause}
-use Rattle.gx_chain.proofs.Slotted.{changed, grows_none, none_item, spot_read, spot_sound}
+use Rattle.gx_chain.proofs.Slotted.{changed, none_item, spot_read, spot_sound}
 use Rattle.gx_chain.proofs.writing.remove_item.Goals as goal
 
 pub returns-in_err-slots-clause-cause : goal.returns-in_err-slots-clause-cause

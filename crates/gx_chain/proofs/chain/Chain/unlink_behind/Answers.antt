@@ -1,7 +1,6 @@
-use Rattle.std.proofs.Common.{◌≢◌, ℕ, refl, sym, ◌∙◌, ap, subst, arith}
+use Rattle.std.proofs.Common.{refl, ◌∙◌, ap, subst, arith}
 use Rattle.std.proofs.lemmas.Result.{err_from_is_err_and}
 use Rattle.gx_words.specs.PageMap.{PageMap, with_page}
-use Rattle.gx_pages.specs.Frees.{KeepsHeader}
 use Rattle.gx_pages.proofs.Footprints.{cause_weaker, gives_at}
 use Rattle.gx_slot.specs.Slots.{Slots, Fits, spelling}
 use Rattle.gx_chain.proofs.Links.{mid_sound}
