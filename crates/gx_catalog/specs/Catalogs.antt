@@ -9,7 +9,8 @@ use Rattle.gx_chain.specs.Chains.{Link, AreLinked, entries_of, first_of, pages_o
 use Rattle.gx_heap.specs.declared.heap.Heap.{Heap}
 use Rattle.gx_catalog.specs.declared.info.TableInfo.{TableInfo}
 use Rattle.gx_catalog.specs.declared.info.IndexInfo.{IndexInfo}
-use Rattle.gx_catalog.specs.Items.{Item, item_bytes, tables_in, indexes_in}
+use Rattle.gx_catalog.specs.declared.info.Item.{Item}
+use Rattle.gx_catalog.specs.Items.{item_bytes, tables_in, indexes_in}
 use Rattle.gx_catalog.specs.Validity.{AreCatalog}
 
 -- What a catalog in memory is seen as: the chain that it stands on, and the tables and the indexes in the order in which

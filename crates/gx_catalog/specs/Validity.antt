@@ -1,33 +1,24 @@
 -- Which lists of tables and indexes are those of a database.
-use Rattle.std.specs.Prelude.{◌≡◌, ◌≢◌, ◌⊎◌, ℕ, ◌^◌, ◌<◌, ◌≤◌, ◌==◌, ◌&&◌, ◌||◌, nat_le, Bool, true, List, [], ◌∷◌, length, map, filter, Some}
+use Rattle.std.specs.Prelude.{◌≡◌, ◌≢◌, ◌⊎◌, ℕ, ◌^◌, ◌<◌, ◌≤◌, ◌==◌, true, List, [], ◌∷◌, length, map, filter, Some}
 use Rattle.std.specs.List.{AllByRecursion, slice_get}
 use Rattle.gx_value.specs.Classes.{takes, allows}
 use Rattle.gx_value.specs.declared.fields.Column.{Column}
 use Rattle.gx_heap.specs.declared.heap.Heap.{Heap}
 use Rattle.gx_catalog.specs.declared.info.TableInfo.{TableInfo}
 use Rattle.gx_catalog.specs.declared.info.IndexInfo.{IndexInfo}
+use Rattle.gx_catalog.specs.Items.{FitsIndex}
 
--- a letter in lower case, or `_`
-abbrev pub is_letter : ℕ → Bool
-is_letter b = nat_le 97 b && nat_le b 122 || b == 95
-
--- a letter or a digit
-abbrev pub is_word_byte : ℕ → Bool
-is_word_byte b = is_letter b || nat_le 48 b && nat_le b 57
-
--- A name is a word in lower case: a letter, then letters and digits, at most 63 bytes.
+-- a name has at most 63 bytes
 abbrev pub IsName : List ℕ → Type 0
-IsName [] = ⊥
-IsName (b ∷ bytes) = (is_letter b ≡ true) × AllByRecursion (λ c. is_word_byte c ≡ true) bytes × (length bytes < 63)
+IsName name = length name ≤ 63
 
 -- no element stands twice
 abbrev pub AreDistinct : {X : Type 0} → List X → Type 0
 AreDistinct [] = Unit {0}
 AreDistinct (x ∷ xs) = AllByRecursion (λ other. x ≢ other) xs × AreDistinct xs
 
--- A table has from 1 to 32 columns of different names.
+-- A table has at most 32 columns, of different names.
 pub record AreColumns (columns : List Column) : Type 0 where
-  pub some : 0 < length columns
   pub few : length columns ≤ 32
   pub named : AllByRecursion (λ column. IsName column.name) columns
   pub distinct : AreDistinct (map (λ column. column.name) columns)
@@ -60,8 +51,7 @@ pub record IsIndex (tables : List TableInfo) (i : IndexInfo) : Type 0 where
   pub place : slice_get table.columns i.column ≡ Some column
   pub takes : takes i.class column.kind ≡ true
   pub allows : allows i.class i.parameter ≡ true
-  pub root : i.root < 2 ^ 64
-  pub nulls : i.nulls < 2 ^ 64
+  pub fits : FitsIndex i
 
 -- the indexes on the table of this number
 abbrev pub indexes_on : ℕ → List IndexInfo → List IndexInfo

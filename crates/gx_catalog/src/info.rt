@@ -25,3 +25,10 @@ pub struct IndexInfo {
     pub root: u64,
     pub nulls: u64,
 }
+
+/// An item of the catalog's chain.
+#[derive(Debug, Drop)]
+pub enum Item {
+    Table(TableInfo),
+    Index(IndexInfo),
+}

@@ -3,6 +3,8 @@
 
 mod catalog;
 mod info;
+mod reading;
+mod writing;
 
 pub use catalog::Catalog;
 pub use info::{IndexInfo, TableInfo};
