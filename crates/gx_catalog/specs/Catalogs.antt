@@ -5,6 +5,7 @@ use Rattle.gx_words.specs.PageMap.{PageMap}
 use Rattle.gx_pages.specs.declared.store.Pages.{Ghosts}
 use Rattle.gx_pages.specs.Frees.{IsApart, IsFreeList}
 use Rattle.gx_chain.specs.declared.chain.Chain.{Chain}
+use Rattle.gx_chain.specs.declared.entry.Entry.{Entry}
 use Rattle.gx_chain.specs.Chains.{Link, AreLinked, entries_of, first_of, pages_of}
 use Rattle.gx_heap.specs.declared.heap.Heap.{Heap}
 use Rattle.gx_catalog.specs.declared.info.TableInfo.{TableInfo}
@@ -30,7 +31,7 @@ pub record Stores (pages : PageMap) (count : ℕ) (tables : List TableInfo) (ind
   pub below : AllByRecursion (λ page. page < count) feet
   pub stand : feet ≡ pages_of links
   pub items : List Item
-  pub spelled : map (λ entry. entry.item) (entries_of links) ≡ map item_bytes items
+  pub spelled : map (λ (entry : Entry). entry.item) (entries_of links) ≡ map item_bytes items
   pub in_tables : tables ≡ tables_in items
   pub in_indexes : indexes ≡ indexes_in items
   pub valid : AreCatalog tables indexes
@@ -61,7 +62,7 @@ HoldsNoCatalog g pages catalog = (feet free : List ℕ) → HoldsCatalog g pages
 
 -- the tables with another heap for the one of this number
 abbrev pub with_heap : ℕ → Heap → List TableInfo → List TableInfo
-with_heap number heap tables = map (λ t. if t.number == number then record t { heap = heap } else t) tables
+with_heap number heap tables = map (λ (t : TableInfo). if t.number == number then record t { heap = heap } else t) tables
 
 -- the tables without the one of this number
 abbrev pub without_table : ℕ → List TableInfo → List TableInfo
@@ -69,7 +70,7 @@ without_table number tables = filter (λ t. not (t.number == number)) tables
 
 -- the indexes with another root of NULL rows for the one of this name
 abbrev pub with_nulls : List ℕ → ℕ → List IndexInfo → List IndexInfo
-with_nulls name nulls indexes = map (λ i. if bytes_eq i.name name then record i { nulls = nulls } else i) indexes
+with_nulls name nulls indexes = map (λ (i : IndexInfo). if bytes_eq i.name name then record i { nulls = nulls } else i) indexes
 
 -- the indexes without the one of this name
 abbrev pub without_index : List ℕ → List IndexInfo → List IndexInfo

@@ -60,11 +60,11 @@ indexes_on number indexes = filter (λ i. i.table == number) indexes
 -- Tables and indexes of a database: at most 256 tables of different names and numbers, and at most 32 indexes on each,
 -- of different names.
 pub record AreCatalog (tables : List TableInfo) (indexes : List IndexInfo) : Type 0 where
-  pub tables : AllByRecursion IsTable tables
+  pub each_table : AllByRecursion IsTable tables
   pub few : length tables ≤ 256
   pub names : AreDistinct (map (λ t. t.name) tables)
   pub numbers : AreDistinct (map (λ t. t.number) tables)
-  pub indexes : AllByRecursion (IsIndex tables) indexes
+  pub each_index : AllByRecursion (IsIndex tables) indexes
   pub index_names : AreDistinct (map (λ i. i.name) indexes)
   pub few_on_each : AllByRecursion (λ t. length (indexes_on t.number indexes) ≤ 32) tables
 

@@ -1,6 +1,6 @@
 //! The tables and the indexes of a database.
 
-ghost use Rattle.std.specs.Prelude.{◌≡◌, ◌≢◌, ℕ, ◌+◌, ◌^◌, ◌<◌, ◌≤◌, List, [], ◌∷◌, ◌++◌, IfOk, IfErr, IfSome, IfNone, OnOk, OnErr};
+ghost use Rattle.std.specs.Prelude.{◌≡◌, ◌≢◌, ◌↔◌, IsTrue, ℕ, ◌+◌, ◌^◌, ◌<◌, ◌≤◌, List, [], ◌∷◌, ◌++◌, IfOk, IfErr, IfSome, IfNone, OnOk, OnErr};
 ghost use Rattle.std.specs.List.{AllByRecursion};
 ghost use Rattle.gx_pages.specs.Footprints.{KeepsPages, StaysQuiet};
 ghost use Rattle.gx_pages.specs.Frees.{IsApart, IsFreeList, IsFull};
@@ -239,7 +239,12 @@ impl Catalog {
         ensures some { IfSome result (λ t. IsAmong t.now self.now.tables × (t.now.name ≡ name.now)) }
         ensures none { IfNone result (AllByRecursion (λ t. t.name ≢ name.now) self.now.tables) }
     {
-        self.tables.iter().find(|t| t.name.as_slice() == name)
+        for table in &self.tables {
+            if are_equal(table.name.as_slice(), name) {
+                return Some(table);
+            }
+        }
+        None
     }
 
     /// The table of this number.
@@ -247,7 +252,12 @@ impl Catalog {
         ensures some { IfSome result (λ t. IsAmong t.now self.now.tables × (t.now.number ≡ number)) }
         ensures none { IfNone result (AllByRecursion (λ t. t.number ≢ number) self.now.tables) }
     {
-        self.tables.iter().find(|t| t.number == number)
+        for table in &self.tables {
+            if table.number == number {
+                return Some(table);
+            }
+        }
+        None
     }
 
     /// The index of this name.
@@ -255,7 +265,12 @@ impl Catalog {
         ensures some { IfSome result (λ i. IsAmong i.now self.now.indexes × (i.now.name ≡ name.now)) }
         ensures none { IfNone result (AllByRecursion (λ i. i.name ≢ name.now) self.now.indexes) }
     {
-        self.indexes.iter().find(|i| i.name.as_slice() == name)
+        for index in &self.indexes {
+            if are_equal(index.name.as_slice(), name) {
+                return Some(index);
+            }
+        }
+        None
     }
 
     /// The least number from 1 that no table has.
@@ -264,10 +279,17 @@ impl Catalog {
         ensures free { AllByRecursion (λ t. t.number ≢ result) self.now.tables }
         ensures least { (number : ℕ) → 0 < number → number < result → HasNumber number self.now.tables }
     {
-        let mut number = 1;
-        while self.table_numbered(number).is_some() {
-            number += 1;
+        for number in 1..u32::MAX {
+            if self.table_numbered(number).is_none() {
+                return number;
+            }
         }
-        number
+        unreachable!()
     }
+}
+
+fn are_equal(one: &[u8], other: &[u8]) -> bool
+    ensures { IsTrue result ↔ (one.now ≡ other.now) }
+{
+    one == other
 }
