@@ -4,3 +4,4 @@ mod FeedFacts
 mod LexemeFacts
 mod OperatorFacts
 mod QuoteFacts
+mod WordFacts
