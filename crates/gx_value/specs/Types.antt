@@ -1,5 +1,6 @@
 -- The types of columns and of operands: their words, and the numbers of column types.
-use Rattle.std.specs.Prelude.{ℕ, ◌==◌, Bool, List, [], ◌∷◌, codes, bytes_eq, find, Option, None, Some, option_map, option_map_or, option_and_then, if◌then◌else◌}
+use Rattle.std.specs.Prelude.{ℕ, ◌==◌, Bool, false, List, [], ◌∷◌, codes, bytes_eq, find, Option, None, Some, option_map, option_and_then, if◌then◌else◌}
+use Rattle.std.specs.Option.{option_map_or}
 use Rattle.gx_value.specs.declared.types.ColumnType.{ColumnType}
 use Rattle.gx_value.specs.declared.types.ColumnType.TheVariants as column
 use Rattle.gx_value.specs.declared.types.OperandType.{OperandType}
