@@ -54,9 +54,6 @@ record One (xs : List (ℕ × Token)) (m n : ℕ) (f : FirstFault xs m) (g : Fir
   place : m ≡ n
   tokens : up_to xs m f ≡ up_to xs n g
 
-place_same : (m n : ℕ) (t u : Token) → (m, t) ≡ (n, u) → m ≡ n
-place_same m n t u e = ap (λ (x : ℕ × Token). x.0) e
-
 one_fault : (xs : List (ℕ × Token)) (m n : ℕ) (f : FirstFault xs m) (g : FirstFault xs n) → One xs m n f g
 one_fault xs m n f g = by (fronts f.front f.behind g.front g.behind (m, f.token) (n, g.token) (sym f.parts ∙ g.parts))
   where
@@ -82,15 +79,15 @@ said_or_wrong piece x at s (inr (inl w)) = no_fault (tokens_of piece) at w.1.0 (
 said_or_wrong piece x at s (inr (inr w)) = w.3 x s.1
 
 said_or_deep : (piece : List ℕ) (x : Said) → IsSaid piece x → IsTooDeep piece → ⊥
-said_or_deep piece x s d = no_fault (tokens_of piece) d.1 d.2 (goes_as_said (plain (tokens_of piece)) x s.1)
+said_or_deep piece x s d = no_fault (tokens_of piece) d.1.0 d.1.1 (goes_as_said (plain (tokens_of piece)) x s.1)
 
 deep_or_wrong : (piece : List ℕ) (at : ℕ) → IsTooDeep piece → IsWrongAt piece at → ⊥
 deep_or_wrong piece at d (inl w) = let e = d.0 in let l = w.0 in omega arith
 deep_or_wrong piece at d (inr (inl w)) =
-    let o = one_fault (tokens_of piece) d.1 at d.2 w.1.0 in
-    let P : List Token → Type 0 = λ ts. Continues d.3 ts in
-    w.1.1 d.3 (subst P o.tokens d.4)
-deep_or_wrong piece at d (inr (inr w)) = no_fault (tokens_of piece) d.1 d.2 w.2
+    let o = one_fault (tokens_of piece) d.1.0 at d.1.1 w.1.0 in
+    let P : List Token → Type 0 = λ ts. Continues d.1.2 ts in
+    w.1.1 d.1.2 (subst P o.tokens d.1.3)
+deep_or_wrong piece at d (inr (inr w)) = no_fault (tokens_of piece) d.1.0 d.1.1 w.2
 
 one_place : (piece : List ℕ) (m n : ℕ) → IsWrongAt piece m → IsWrongAt piece n → m ≡ n
 one_place piece m n (inl w) (inl v) = w.1 ∙ sym v.1
