@@ -1,7 +1,7 @@
 use Rattle.std.proofs.Common.{◌≡◌, ◌-◌, ◌≤◌, false, length, drop}
 use Rattle.gx_lexer.specs.Tokens.{text_from}
 use Rattle.gx_lexer.proofs.QuoteFacts.{with_front}
-use Rattle.gx_lexer.proofs.scan.text_at.Given as goal
+use Rattle.gx_lexer.proofs.scan.doubled_text_at.Given as goal
 
 abbrev pub invariant-loop-n : goal.invariant-loop-n
 invariant-loop-n l = record {
