@@ -1,3 +1,4 @@
+mod Candidates
 mod Merging
 mod Rising
 mod Walking
