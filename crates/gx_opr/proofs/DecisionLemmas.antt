@@ -2,8 +2,10 @@
 use Rattle.std.proofs.Common.{◌≡◌, ℕ, ℤ, Bool, true, false, List, Option, None, Some, Contains, Any, IsSomeAnd}
 use Rattle.std.specs.Bool.{Decides}
 use Rattle.std.specs.Option.{option_map_or}
+use Rattle.std.specs.List.{list_any}
 use Rattle.gx_scalar.specs.declared.scalar.Scalar.{Scalar}
 use Rattle.gx_scalar.specs.declared.scalar.Scalar.TheVariants as scalars
+use Rattle.gx_scalar.specs.declared.operators.ScalarOp.{ScalarOp}
 use Rattle.gx_scalar.specs.Operators as of_scalars
 use Rattle.gx_range.specs.declared.range.Range.{Range}
 use Rattle.gx_range.specs.declared.range.RangeOp.{RangeOp}

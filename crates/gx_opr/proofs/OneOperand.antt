@@ -1,9 +1,9 @@
 -- A literal has one right side but for want of memory, by the laws of the types.
-use Rattle.std.proofs.Common.{◌≡◌, ◌≢◌, ℕ, ℤ, List, [], ◌∷◌, ◌++◌, Option, None, Some, Result, Ok, Err, IsUtf8, inl, inr, refl, sym, ap, ap₂, ◌∙◌, subst}
+use Rattle.std.proofs.Common.{◌≡◌, ◌≢◌, ℕ, ℤ, true, List, [], ◌∷◌, ◌++◌, Option, None, Some, Result, Ok, Err, IsUtf8, inl, inr, refl, sym, ap, ap₂, ◌∙◌, subst}
 use Rattle.gx_bytes.specs.declared.error.ValueError.{ValueError}
 use Rattle.gx_bytes.specs.declared.error.ValueError.TheVariants.{NoValue, OutOfRange, TooDeep, Memory}
 use Rattle.gx_formula.specs.Formula.{Tree}
-use Rattle.gx_formula.specs.Grammar.{AnswersFormula}
+use Rattle.gx_formula.specs.Grammar.{SpellsFormula, AnswersFormula}
 use Rattle.gx_formula.proofs.AnswerLemmas.{alike}
 use Rattle.gx_intarr.specs.Laws as of_numbers
 use Rattle.gx_intarr.specs.Numbers.{TakesInt4, IsFarNumber}

@@ -1,5 +1,5 @@
 -- The operators over values of every type decided: each test is true exactly where the operator holds.
-use Rattle.std.specs.Prelude.{ℕ, ℤ, Bool, false, List}
+use Rattle.std.specs.Prelude.{ℕ, ℤ, Bool, false, List, Option, None, Some}
 use Rattle.std.specs.Option.{option_map_or}
 use Rattle.gx_scalar.specs.declared.scalar.Scalar.{Scalar}
 use Rattle.gx_scalar.specs.declared.scalar.Scalar.TheVariants as scalars
