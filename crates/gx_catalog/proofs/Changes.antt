@@ -3,6 +3,7 @@ use Rattle.std.proofs.Common.{◌≡◌, ◌≢◌, ◌⊎◌, inl, inr, Bool, t
 use Rattle.std.specs.Bool.{Decides}
 use Rattle.std.specs.List.{AllByRecursion}
 use Rattle.std.proofs.lemmas.List.{map-append}
+use Rattle.std.proofs.lemmas.List.{sum_by-append}
 use Rattle.std.proofs.lemmas.Slice.Eq.{bytes_eq-Decides}
 use Rattle.std.proofs.lemmas.Bool.Decides.{Decides-eqb}
 use Rattle.gx_pages.proofs.Footprints as feet
@@ -146,16 +147,19 @@ module _ (xs ys : List TableInfo) (t : TableInfo) (indexes : List IndexInfo) (ba
       filter_one (λ a b. a == b) Decides-eqb (λ (u : TableInfo). u.number) (λ (u : TableInfo). u) t.number xs ys t refl differ.0 differ.1
 
 -- how many indexes are on a table where one index is changed or taken out
-count_step : (b : Bool) (m n : ℕ) → m ≡ n → cond b 1 0 + m ≡ cond b 1 0 + n
-count_step b m n same = ap (λ (k : ℕ). cond b 1 0 + k) same
+module _ (number : ℕ) where
+  abbrev counts : IndexInfo → ℕ
+  counts i = cond (i.table == number) 1 0
 
-count_replace : (number : ℕ) (xs ys : List IndexInfo) (i j : IndexInfo) → i.table ≡ j.table → count_on number (xs ++ j ∷ ys) ≡ count_on number (xs ++ i ∷ ys)
-count_replace number [] ys i j same = ap (λ (n : ℕ). cond (n == number) 1 0 + count_on number ys) (sym same)
-count_replace number (x ∷ xs) ys i j same = count_step (x.table == number) (count_on number (xs ++ j ∷ ys)) (count_on number (xs ++ i ∷ ys)) (count_replace number xs ys i j same)
+  mid : (xs ys : List IndexInfo) (i : IndexInfo) → count_on number (xs ++ i ∷ ys) ≡ count_on number xs + (count_on number (i ∷ []) + count_on number ys)
+  mid xs ys i = sum_by-append counts xs (i ∷ ys) ∙ ap (λ (n : ℕ). count_on number xs + n) (sum_by-append counts (i ∷ []) ys)
 
-count_drop : (number : ℕ) (xs ys : List IndexInfo) (i : IndexInfo) → count_on number (xs ++ ys) ≤ count_on number (xs ++ i ∷ ys)
-count_drop number [] ys i = omega arith
-count_drop number (x ∷ xs) ys i = let rest = count_drop number xs ys i in omega (arith, rest)
+  count_replace : (xs ys : List IndexInfo) (i j : IndexInfo) → i.table ≡ j.table → count_on number (xs ++ j ∷ ys) ≡ count_on number (xs ++ i ∷ ys)
+  count_replace xs ys i j same =
+      mid xs ys j ∙ ap (λ (n : ℕ). count_on number xs + (0 + cond (n == number) 1 0 + count_on number ys)) (sym same) ∙ sym (mid xs ys i)
+
+  count_drop : (xs ys : List IndexInfo) (i : IndexInfo) → count_on number (xs ++ ys) ≤ count_on number (xs ++ i ∷ ys)
+  count_drop xs ys i = let all = mid xs ys i in let less = sum_by-append counts xs ys in omega (arith, all, less)
 
 -- an index with another root of NULL rows
 module _ (tables : List TableInfo) (xs ys : List IndexInfo) (i : IndexInfo) (nulls : ℕ) (are : AreCatalog tables (xs ++ i ∷ ys)) where

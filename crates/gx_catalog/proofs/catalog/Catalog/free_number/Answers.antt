@@ -1,6 +1,7 @@
 use Rattle.std.proofs.Common.{◌≡◌, ◌<◌, ◌≤◌, ◌+◌, ℕ, List, length, not, ⊎_elim, sym, ◌∙◌, ap, subst, arith}
 use Rattle.std.proofs.lemmas.Bool.Decides.{eqb_tells}
 use Rattle.gx_catalog.specs.declared.info.TableInfo.{TableInfo}
+use Rattle.gx_catalog.specs.Catalogs.{Directory}
 use Rattle.gx_catalog.specs.Validity.{HasNumber}
 use Rattle.gx_catalog.proofs.Pigeons.{pigeons}
 use Rattle.gx_catalog.proofs.TailFacts.{has_number}
@@ -21,3 +22,9 @@ unreachable-requires c =
     let same = ap (λ (l : List TableInfo). length l) c.as_slice-tables.ensures.value in
     let few = c.self.invariant.few in
     omega (arith, all, same, few)
+
+pub returns-then-is_none-clause-least : goal.returns-then-is_none-clause-least
+returns-then-is_none-clause-least c = λ number some below.
+    let view : Directory = record { chain = c.self.inside.chain; tables = c.self.inside.tables.items; indexes = c.self.inside.indexes.items } in
+    let is : view ≡ c.args.self.now = cc in
+    subst (λ (l : List TableInfo). HasNumber number l) (c.as_slice-tables.ensures.value ∙ ap (λ (d : Directory). d.tables) is) (c.loop-number.invariant number some below)
