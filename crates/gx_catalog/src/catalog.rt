@@ -1,18 +1,24 @@
 //! The tables and the indexes of a database.
 
-ghost use Rattle.std.specs.Prelude.{◌≡◌, ◌≢◌, ◌↔◌, IsTrue, ℕ, ◌+◌, ◌^◌, ◌<◌, ◌≤◌, List, [], ◌∷◌, ◌++◌, IfOk, IfErr, IfSome, IfNone, OnOk, OnErr};
-ghost use Rattle.std.specs.List.{AllByRecursion};
+ghost use Rattle.std.specs.Prelude.{◌≡◌, ℕ, ◌+◌, ◌<◌, ◌≤◌, List, [], ◌∷◌, ◌++◌, None, IfOk, IfErr, OnOk, OnErr};
+ghost use Rattle.std.specs.Option.{option_copied};
 ghost use Rattle.gx_pages.specs.Footprints.{KeepsPages, StaysQuiet};
 ghost use Rattle.gx_pages.specs.Frees.{IsApart, IsFreeList, IsFull};
 ghost use Rattle.gx_pages.specs.Pages.{HasCause};
 ghost use Rattle.gx_chain.specs.Chains.{IsSound};
-ghost use Rattle.gx_catalog.specs.Validity.{AreCatalog, HasIndex, HasNoIndex, HasNumber, IsAmong, IsHeap};
+ghost use Rattle.gx_catalog.specs.Validity.{AreCatalog, HasIndex, HasNoIndex, HasNumber, IsHeap, index_named, table_named, table_numbered};
 ghost use Rattle.gx_catalog.specs.Catalogs.{HoldsCatalog, HoldsNoCatalog, Stores, StoresNone, chain_on, with_heap, with_nulls, without_index, without_table};
 ghost use Rattle.gx_catalog.specs.declared.info.TableInfo.{TableInfo};
 ghost use Rattle.gx_catalog.specs.declared.info.IndexInfo.{IndexInfo};
 
 use crate::info::{IndexInfo, TableInfo};
-use gx_chain::Chain;
+use crate::lists::lists_of;
+use crate::lookup::{index_named, table_named, table_numbered};
+use crate::memory::{drop_index_of, drop_table_of, set_heap_of, set_nulls_of};
+use crate::place::{CATALOG, FIRST, find_place, no_catalog};
+use crate::validity::are_catalog;
+use crate::writing::{index_item, table_item};
+use gx_chain::{Chain, replace_item};
 use gx_heap::Heap;
 use gx_pages::{PageError, Pages};
 use std::alloc::Global;
@@ -55,9 +61,21 @@ impl Catalog {
         ensures heap { IsSound result → P.heap_fetches pages.new ≡ P.heap_fetches pages.old }
         ensures quiet { StaysQuiet P.Pages pages.old pages.new }
     {
-        let _alloc = alloc;
-        let _pages = pages;
-        Err(PageError::Memory)
+        let (chain, _feet, entries) = Chain::open(alloc, pages, CATALOG, FIRST)?;
+        let Ok(lists) = lists_of(alloc, entries.as_slice()) else {
+            return Err(PageError::Memory);
+        };
+        let Some((tables, indexes)) = lists else {
+            return Err(no_catalog());
+        };
+        if !are_catalog(tables.as_slice(), indexes.as_slice()) {
+            return Err(no_catalog());
+        }
+        Ok(Catalog {
+            chain,
+            tables,
+            indexes,
+        })
     }
 
     /// The tables in the order in which they were made.
@@ -96,10 +114,19 @@ impl Catalog {
         ensures heap { IsSound result → P.heap_fetches pages.new ≡ P.heap_fetches pages.old }
         ensures quiet { StaysQuiet P.Pages pages.old pages.new }
     {
-        let _alloc = alloc;
-        let _pages = pages;
-        let _table = table;
-        Err(PageError::Memory)
+        let Ok(item) = table_item(alloc, &table, &table.heap) else {
+            return Err(PageError::Memory);
+        };
+        let Ok(()) = self.tables.reserve(1) else {
+            return Err(PageError::Memory);
+        };
+        let mut chain = self.chain;
+        chain.append(pages, CATALOG, item.as_slice())?;
+        let Ok(()) = self.tables.push(table) else {
+            unreachable!();
+        };
+        self.chain = chain;
+        Ok(())
     }
 
     /// Adds an index behind all others.
@@ -122,10 +149,19 @@ impl Catalog {
         ensures heap { IsSound result → P.heap_fetches pages.new ≡ P.heap_fetches pages.old }
         ensures quiet { StaysQuiet P.Pages pages.old pages.new }
     {
-        let _alloc = alloc;
-        let _pages = pages;
-        let _index = index;
-        Err(PageError::Memory)
+        let Ok(item) = index_item(alloc, &index, index.nulls) else {
+            return Err(PageError::Memory);
+        };
+        let Ok(()) = self.indexes.reserve(1) else {
+            return Err(PageError::Memory);
+        };
+        let mut chain = self.chain;
+        chain.append(pages, CATALOG, item.as_slice())?;
+        let Ok(()) = self.indexes.push(index) else {
+            unreachable!();
+        };
+        self.chain = chain;
+        Ok(())
     }
 
     /// Gives the table of this number another heap. It keeps its place.
@@ -149,11 +185,19 @@ impl Catalog {
         ensures heap { IsSound result → P.heap_fetches pages.new ≡ P.heap_fetches pages.old }
         ensures quiet { StaysQuiet P.Pages pages.old pages.new }
     {
-        let _alloc = alloc;
-        let _pages = pages;
-        let _table = table;
-        let _heap = heap;
-        Err(PageError::Memory)
+        let Some(info) = table_numbered(self.tables.as_slice(), table) else {
+            unreachable!();
+        };
+        let Ok(old) = table_item(alloc, info, &info.heap) else {
+            return Err(PageError::Memory);
+        };
+        let Ok(new) = table_item(alloc, info, &heap) else {
+            return Err(PageError::Memory);
+        };
+        let place = find_place(alloc, pages, old.as_slice())?;
+        replace_item(pages, CATALOG, place.page, place.slot, new.as_slice())?;
+        set_heap_of(&mut self.tables, table, heap);
+        Ok(())
     }
 
     /// Gives the index of this name another root of the tree of its rows with NULL. It keeps its place.
@@ -176,11 +220,19 @@ impl Catalog {
         ensures heap { IsSound result → P.heap_fetches pages.new ≡ P.heap_fetches pages.old }
         ensures quiet { StaysQuiet P.Pages pages.old pages.new }
     {
-        let _alloc = alloc;
-        let _pages = pages;
-        let _name = name;
-        let _nulls = nulls;
-        Err(PageError::Memory)
+        let Some(info) = index_named(self.indexes.as_slice(), name) else {
+            unreachable!();
+        };
+        let Ok(old) = index_item(alloc, info, info.nulls) else {
+            return Err(PageError::Memory);
+        };
+        let Ok(new) = index_item(alloc, info, nulls) else {
+            return Err(PageError::Memory);
+        };
+        let place = find_place(alloc, pages, old.as_slice())?;
+        replace_item(pages, CATALOG, place.page, place.slot, new.as_slice())?;
+        set_nulls_of(&mut self.indexes, name, nulls);
+        Ok(())
     }
 
     /// Takes the table of this number out. No index may be on it.
@@ -203,10 +255,18 @@ impl Catalog {
         ensures heap { IsSound result → P.heap_fetches pages.new ≡ P.heap_fetches pages.old }
         ensures quiet { StaysQuiet P.Pages pages.old pages.new }
     {
-        let _alloc = alloc;
-        let _pages = pages;
-        let _table = table;
-        Err(PageError::Memory)
+        let Some(info) = table_numbered(self.tables.as_slice(), table) else {
+            unreachable!();
+        };
+        let Ok(old) = table_item(alloc, info, &info.heap) else {
+            return Err(PageError::Memory);
+        };
+        let place = find_place(alloc, pages, old.as_slice())?;
+        let mut chain = self.chain;
+        chain.remove(pages, CATALOG, place.before, place.page, place.slot)?;
+        drop_table_of(&mut self.tables, table);
+        self.chain = chain;
+        Ok(())
     }
 
     /// Takes the index of this name out.
@@ -228,68 +288,53 @@ impl Catalog {
         ensures heap { IsSound result → P.heap_fetches pages.new ≡ P.heap_fetches pages.old }
         ensures quiet { StaysQuiet P.Pages pages.old pages.new }
     {
-        let _alloc = alloc;
-        let _pages = pages;
-        let _name = name;
-        Err(PageError::Memory)
+        let Some(info) = index_named(self.indexes.as_slice(), name) else {
+            unreachable!();
+        };
+        let Ok(old) = index_item(alloc, info, info.nulls) else {
+            return Err(PageError::Memory);
+        };
+        let place = find_place(alloc, pages, old.as_slice())?;
+        let mut chain = self.chain;
+        chain.remove(pages, CATALOG, place.before, place.page, place.slot)?;
+        drop_index_of(&mut self.indexes, name);
+        self.chain = chain;
+        Ok(())
     }
 
     /// The table of this name.
     pub fn table(&self, name: &[u8]) -> Option<&TableInfo>
-        ensures some { IfSome result (λ t. IsAmong t.now self.now.tables × (t.now.name ≡ name.now)) }
-        ensures none { IfNone result (AllByRecursion (λ t. t.name ≢ name.now) self.now.tables) }
+        ensures { option_copied result ≡ table_named name.now self.now.tables }
     {
-        for table in &self.tables {
-            if are_equal(table.name.as_slice(), name) {
-                return Some(table);
-            }
-        }
-        None
+        table_named(self.tables.as_slice(), name)
     }
 
     /// The table of this number.
     pub fn table_numbered(&self, number: u32) -> Option<&TableInfo>
-        ensures some { IfSome result (λ t. IsAmong t.now self.now.tables × (t.now.number ≡ number)) }
-        ensures none { IfNone result (AllByRecursion (λ t. t.number ≢ number) self.now.tables) }
+        ensures { option_copied result ≡ table_numbered number self.now.tables }
     {
-        for table in &self.tables {
-            if table.number == number {
-                return Some(table);
-            }
-        }
-        None
+        table_numbered(self.tables.as_slice(), number)
     }
 
     /// The index of this name.
     pub fn index(&self, name: &[u8]) -> Option<&IndexInfo>
-        ensures some { IfSome result (λ i. IsAmong i.now self.now.indexes × (i.now.name ≡ name.now)) }
-        ensures none { IfNone result (AllByRecursion (λ i. i.name ≢ name.now) self.now.indexes) }
+        ensures { option_copied result ≡ index_named name.now self.now.indexes }
     {
-        for index in &self.indexes {
-            if are_equal(index.name.as_slice(), name) {
-                return Some(index);
-            }
-        }
-        None
+        index_named(self.indexes.as_slice(), name)
     }
 
     /// The least number from 1 that no table has.
     pub fn free_number(&self) -> u32
         ensures some { 0 < result }
-        ensures free { AllByRecursion (λ t. t.number ≢ result) self.now.tables }
+        ensures free { table_numbered result self.now.tables ≡ None }
         ensures least { (number : ℕ) → 0 < number → number < result → HasNumber number self.now.tables }
     {
-        for number in 1..u32::MAX {
-            if self.table_numbered(number).is_none() {
+        let tables = self.tables.as_slice();
+        for number in 1..258 {
+            if table_numbered(tables, number).is_none() {
                 return number;
             }
         }
         unreachable!()
     }
-}
-
-fn are_equal(one: &[u8], other: &[u8]) -> bool
-    ensures { IsTrue result ↔ (one.now ≡ other.now) }
-{
-    one == other
 }
