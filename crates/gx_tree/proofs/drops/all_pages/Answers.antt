@@ -24,7 +24,13 @@ returns-in_err-uppers-clause-cause g c =
 
 pub returns-clause-all : goal.returns-clause-all
 returns-clause-all g c = λ tells tree held.
-    let both = tree_pages (g.P.Pages.map c.fetch_top.new.pages) (g.P.Pages.count c.fetch_top.new.pages) c.args.kind c.args.root c.in_ok-top.top c.in_ok-uppers.uppers.items c.in_ok-uppers.leaves.items (c.in_ok-uppers.ensures.found tells) tree
+    let both = tree_pages (g.P.Pages.map c.fetch_top.new.pages) (g.P.Pages.count c.fetch_top.new.pages) c.args.kind c.args.root c.in_ok-top.top c.in_ok-uppers.field-0.uppers.items c.in_ok-uppers.field-0.leaves.items (c.in_ok-uppers.ensures.found tells) tree
     (held_same (g.P.Pages.map c.args.pages.now) (g.P.Pages.map c.fetch_top.new.pages) (g.P.Pages.count c.args.pages.now) (g.P.Pages.count c.fetch_top.new.pages) c.args.kind c.args.root tree c.in_ok-top.ensures.map c.in_ok-top.ensures.count held)
     (c.in_ok-top.ensures.top tells tree held) (λ flat. c.if-level-eq0.false (c.level.ensures ∙ flat)) in
-    c.in-Ok-extend_from_slice.ensures.items ∙ ap (λ (l : List ℕ). c.in_ok-uppers.uppers.items ++ l) (c.as_slice.ensures.value ∙ both.1) ∙ ap (λ (l : List ℕ). l ++ numbers (leaves tree)) both.0
+    let first = c.in_ok-uppers.uppers-is in
+    let second = c.in_ok-uppers.leaves-is in
+    let more = c.in-Ok-extend_from_slice.ensures.items in
+    let slice = c.as_slice.ensures.value in
+    let ups = both.0 in
+    let ends = both.1 in
+    cc
