@@ -136,3 +136,8 @@ flat_entries kind (suc level) top flat = absurd (omega (arith, flat))
 
 pub flat_items : (kind : ℕ) (found : Slots) (tree : Tree) → found ≡ slots_of kind tree.0 tree.1 → tree.0 ≡ 0 → found.items ≡ map (λ item. Some item) (entries tree)
 flat_items kind found tree is flat = ap (λ (s : Slots). s.items) is ∙ flat_entries kind tree.0 tree.1 flat
+
+pub leaves_end : (list : List ℕ) (leaves : List Leaf) (i : ℕ) → list ≡ numbers leaves → length list ≤ i → items_of (drop i leaves) ≡ []
+leaves_end list leaves i are past =
+    let same = ap (λ (l : List ℕ). length l) are in
+    ap (λ (l : List Leaf). items_of l) (drop_all i leaves (omega (arith, past, same, length-map leaves (λ (leaf : Leaf). leaf.0))))

@@ -11,7 +11,7 @@ ghost use Rattle.gx_tree.specs.Trees.{IsBrokenOr, IsOn, Leaf, items_of, numbers}
 ghost use Rattle.gx_posting_tree.specs.PostingTrees.{AreSpelled};
 
 use gx_pages::{Bitmap, PageError, Pages};
-use gx_posting::{one_list, read_posting};
+use gx_posting::read_posting;
 use gx_slot::SlotPage;
 use gx_tree::fetch_level;
 
@@ -24,7 +24,6 @@ pub fn push_rows(page: u64, slots: &SlotPage, to: &mut Bitmap) -> Result<(), Pag
     ensures cause { IfErr result (IsBrokenOr page ((items : List (List ℕ)) (rows : List RowRef) → slots.now.items ≡ map (λ item. Some item) items → AreSpelled items rows
         → IsRising (to.old ++ rows) → ⊥)) }
 {
-    one_list();
     for slot in 0..slots.count() {
         let Some(item) = slots.item(slot) else {
             return Err(no_list(page));
@@ -50,11 +49,7 @@ fn no_list(page: u64) -> PageError
 }
 
 /// Adds the rows of pages of level 0.
-pub fn leaf_rows<P: Pages>(
-    pages: &mut P,
-    list: &[u64],
-    to: &mut Bitmap,
-) -> Result<(), PageError>
+pub fn leaf_rows<P: Pages>(pages: &mut P, list: &[u64], to: &mut Bitmap) -> Result<(), PageError>
     ensures ok { OnOk result (P.tells → (leaves : List Leaf) (rows : List RowRef) → list.now ≡ numbers leaves → AllByRecursion (IsOn (P.map pages.old) 6 0) leaves
         → AreSpelled (items_of leaves) rows → to.new ≡ to.old ++ rows) }
     ensures cause { IfErr result (HasCause (P.faults pages.old) (P.faults pages.new)

@@ -61,8 +61,8 @@ permuted [] (y ∷ ys) same = absurd (let here = same y in let one = feet.times_
 permuted (x ∷ xs) ys same =
     let here = has_some x ys (let e = same x in let one = feet.times_one x xs in omega (arith, e, one)) in
     let rest = permuted xs (here.front ++ here.back) (λ n.
-        let e : feet.times n (x ∷ xs) ≡ feet.times n (here.front ++ x ∷ here.back) = same n ∙ ap (λ (l : List ℕ). feet.times n l) here.cut in
-        omega (arith, e, feet.times-append n here.front (x ∷ here.back), feet.times-append n here.front here.back)) in
+    let e : feet.times n (x ∷ xs) ≡ feet.times n (here.front ++ x ∷ here.back) = same n ∙ ap (λ (l : List ℕ). feet.times n l) here.cut in
+    omega (arith, e, feet.times-append n here.front (x ∷ here.back), feet.times-append n here.front here.back)) in
     IsPermutation-trans (x ∷ xs) (x ∷ (here.front ++ here.back)) ys (IsPermutation-cons x xs (here.front ++ here.back) rest)
     (subst (λ (l : List ℕ). IsPermutation (x ∷ (here.front ++ here.back)) l) (sym here.cut)
     (IsPermutation-sym (here.front ++ x ∷ here.back) (x ∷ (here.front ++ here.back)) (IsPermutation-middle here.front x here.back)))

@@ -117,9 +117,9 @@ module _ (now : PageMap) (count kind level : ℕ) (seen row : List ℕ) (nodes :
         ∙ ap (λ (l : List ℕ). map (page_of level) (children level (take i nodes)) ++ l) these
         ∙ sym (map-append (page_of level) (children level (take i nodes)) (map (λ (item : List ℕ × Node level). item.1) node.1))
         ∙ ap (λ (l : List (Node level)). map (page_of level) l) (
-          ap (λ (l : List (Node level)). children level (take i nodes) ++ l) (sym (append-nil (map (λ (item : List ℕ × Node level). item.1) node.1)))
-          ∙ sym (children_append level (take i nodes) (node ∷ []))
-          ∙ ap (λ (l : List (Node (suc level))). children level l) (sym (at_place nodes i (omega (arith, below, len))).more)
+        ap (λ (l : List (Node level)). children level (take i nodes) ++ l) (sym (append-nil (map (λ (item : List ℕ × Node level). item.1) node.1)))
+        ∙ sym (children_append level (take i nodes) (node ∷ []))
+        ∙ ap (λ (l : List (Node (suc level))). children level l) (sym (at_place nodes i (omega (arith, below, len))).more)
         )
 
 -- the row at level 0, and a row above it

@@ -14,9 +14,11 @@ returns-clause-dropped g c =
     let mid = c.all_pages.new.pages in
     let all : c.as_slice.result.now ≡ footprint tree = c.as_slice.ensures.value ∙ c.in_ok-all.ensures.all tells tree held.held in
     let done = given tells free (subst (λ (l : List ℕ). Gives g.P.Pages mid c.args.kind l free) (sym all)
-    (gives_same g.P.Pages old mid c.args.kind (footprint tree) free c.in_ok-all.ensures.map c.in_ok-all.ensures.count (tree_gives g.P.Pages old c.args.kind c.args.root tree free held))) in
-    (done.0, keeps_from g.P.Pages old mid c.give_pages.new.pages (footprint tree) free [] done.0 c.in_ok-all.ensures.map c.in_ok-all.ensures.count
-    (subst (λ (l : List ℕ). KeepsPages g.P.Pages mid c.give_pages.new.pages l free [] done.0) all done.1)))
+    (gives_same g.P.Pages old mid c.args.kind (footprint tree) free c.in_ok-all.ensures.map c.in_ok-all.ensures.count (tree_gives g.P.Pages old c.args.kind c.args.root tree free held))) in (
+      done.0,
+      keeps_from g.P.Pages old mid c.give_pages.new.pages (footprint tree) free [] done.0 c.in_ok-all.ensures.map c.in_ok-all.ensures.count
+          (subst (λ (l : List ℕ). KeepsPages g.P.Pages mid c.give_pages.new.pages l free [] done.0) all done.1),
+    ))
     c.give_pages.ensures.given
 
 pub returns-clause-cause : goal.returns-clause-cause

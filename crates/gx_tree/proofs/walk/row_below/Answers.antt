@@ -78,8 +78,8 @@ loop-page-preserved g c = record {
   uppers = c.in-Ok.ensures.items ∙ ap (λ (l : List ℕ). l ++ get_or c.args.row.now c.loop-page.page-index 0 ∷ []) c.loop-page.invariant.uppers
       ∙ append_assoc c.args.uppers.now.items (take c.loop-page.page-index c.args.row.now) (get_or c.args.row.now c.loop-page.page-index 0 ∷ [])
       ∙ ap (λ (l : List ℕ). c.args.uppers.now.items ++ l) (
-        ap (λ (n : ℕ). take c.loop-page.page-index c.args.row.now ++ n ∷ []) ((at_place c.args.row.now c.loop-page.page-index c.loop-page-test.true).is 0)
-        ∙ sym (at_place c.args.row.now c.loop-page.page-index c.loop-page-test.true).more
+      ap (λ (n : ℕ). take c.loop-page.page-index c.args.row.now ++ n ∷ []) ((at_place c.args.row.now c.loop-page.page-index c.loop-page-test.true).is 0)
+      ∙ sym (at_place c.args.row.now c.loop-page.page-index c.loop-page-test.true).more
       );
   map = c.in_ok-slots.ensures.map ∙ c.loop-page.invariant.map;
   count = c.in_ok-slots.ensures.count ∙ c.loop-page.invariant.count;
