@@ -2,13 +2,12 @@
 #![tactic(auto)]
 
 mod chain;
-mod files;
 mod growth;
 mod keys;
 mod pages;
 mod texts;
 
-use std::rt::{Clock, Files};
+use std::rt::Clock;
 use std::{env, io};
 
 const HELP: &str = "\
@@ -17,8 +16,6 @@ usage: bench NAME ..
   chain   append 100,000 items of 40 bytes to a chain of pages in memory
   keys    a million times each: read, test, weigh and unite keys of scalars
   texts   100,000 times each: read a text of a type, and print its value
-  fetches a million fetches of pages from memory, and of a pager over two files: since the last checkpoint, cached, from a file
-  commits 2,000 durable commits of one page over two files, made and removed in the current folder
   growth  operators on two equal values that grow tenfold
 ";
 
@@ -34,14 +31,12 @@ fn main(rt: HostRuntime) -> io::Result<()> {
 }
 
 /// Runs the benchmark of this name.
-fn run<R: Clock + Files + Print + AllocGlobal>(rt: &R, name: &str) -> io::Result<()> {
+fn run<R: Clock + Print + AllocGlobal>(rt: &R, name: &str) -> io::Result<()> {
     match name {
         "pages" => pages::run(rt),
         "chain" => chain::run(rt),
         "keys" => keys::run(rt),
         "texts" => texts::run(rt),
-        "fetches" => files::fetches(rt),
-        "commits" => files::commits(rt),
         "growth" => growth::run(rt),
         _ => rt.print(HELP),
     }

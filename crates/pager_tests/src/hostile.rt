@@ -1,7 +1,7 @@
 //! Disks that can't be opened, and pages that are lacking.
 
 use gx_disk::{MemoryHost, Pick};
-use gx_pager::Pager;
+use gx_pager::{Pager, read_file};
 use gx_pages::{Page, PageError, Pages};
 use std::alloc::Global;
 use std::test::Fail;
@@ -60,7 +60,7 @@ fn refused(rt: HostRuntime) -> Result<(), Fail> {
             expected: *expected,
             found: *found,
         };
-        match Pager::open(alloc, &mut host) {
+        match read_file(alloc, &mut host) {
             Ok(_) => assert!(rt; false, "{broken:?} is opened"),
             Err(error) => assert_eq!(rt; error, broken),
         }

@@ -1,0 +1,9 @@
+pub mod Causes
+pub mod Dropped
+pub mod Linked
+pub mod Lists
+pub mod Making
+pub mod Nodes
+pub mod Rows
+pub mod Staying
+pub mod Tops
