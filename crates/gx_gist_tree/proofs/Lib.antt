@@ -1,0 +1,6 @@
+mod InsertFacts
+mod ItemFacts
+mod Places
+mod SeenFacts
+mod TreeFacts
+mod VisitFacts

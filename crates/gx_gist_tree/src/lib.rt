@@ -1,0 +1,14 @@
+//! A tree of the keys of an operator class, on pages: a map from rows to leaf keys, searched by the keys above them
+//! (PostgreSQL 16, chapter 68, "GiST Indexes").
+#![tactic(auto)]
+
+mod found;
+mod items;
+mod laws;
+mod reading;
+mod search;
+mod seen;
+mod tree;
+
+pub use laws::search_is_exact;
+pub use tree::Tree;
