@@ -1,5 +1,7 @@
+mod HeldFacts
 mod InsertFacts
 mod ItemFacts
+mod MadeFacts
 mod Places
 mod SeenFacts
 mod TreeFacts

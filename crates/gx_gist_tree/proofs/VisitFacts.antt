@@ -105,11 +105,6 @@ module _ {C V Q K : Type 0} (g : Ghosts C V Q K) (class : C) (pages : PageMap) (
     pub unseen_page : (seen : List ℕ) → AreFresh seen (pages_of K (suc below) node) → IsOutside page seen
     unseen_page seen fresh = subst (λ (n : ℕ). IsOutside n seen) (sym read.at) fresh.0.0
 
-  -- a level that isn't 0 is one above another
-  pub level_up : (level : ℕ) → level ≢ 0 → level ≡ suc (level - 1)
-  level_up zero some = absurd (some refl)
-  level_up (suc level) some = let e : suc level - 1 ≡ level = omega arith in ap (λ (n : ℕ). suc n) (sym e)
-
   -- the same at an equal map and count
   pub read_same : (map : PageMap) (total : ℕ) → map ≡ pages → total ≡ count → (level : ℕ) (node : Node K level) (slots : Slots) (page : ℕ) → IsRead g class pages count level node slots page
       → IsRead g class map total level node slots page
@@ -150,3 +145,19 @@ sum_all new loop old s v all x y z = omega arith
 
 pub sum_next : (new loop old s v all : ℕ) → new ≤ loop + v → loop ≤ old + s → all ≡ s + v → new ≤ old + all
 sum_next new loop old s v all x y z = omega arith
+
+-- a level that isn't 0 is one above another
+pub level_up : (level : ℕ) → level ≢ 0 → level ≡ suc (level - 1)
+level_up zero some = absurd (some refl)
+level_up (suc level) some = let e : suc level - 1 ≡ level = omega arith in ap (λ (n : ℕ). suc n) (sym e)
+
+-- what a page below an item adds
+pub visit_sum : (t : Test) (new mid old v : ℕ) → passes t ≡ true → new + 1 ≤ mid + v → mid ≤ old + 1 → new ≤ old + (if passes t then v else 0)
+visit_sum t new mid old v passed x y = rw passed (omega (arith, x, y))
+
+pub visit_one : (t : Test) (mid old v : ℕ) → passes t ≡ true → mid ≤ old + 1 → 1 ≤ v → mid ≤ old + (if passes t then v else 0)
+visit_one t mid old v passed x y = rw passed (omega (arith, x, y))
+
+pub rows_where : {K : Type 0} (t : Test) (entries : List (Entry K)) (old new : List RowRef) → passes t ≡ true → new ≡ old ++ map (λ e. e.0) entries
+    → new ≡ old ++ map (λ e. e.0) (if passes t then entries else [])
+rows_where t entries old new passed is = rw passed is

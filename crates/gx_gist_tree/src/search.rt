@@ -231,7 +231,8 @@ fn visit_slot<P: Pages, C: OnBytes>(
     ensures other { IsUnbroken result → P.heap_fetches pages.new ≡ P.heap_fetches pages.old }
     ensures quiet { StaysQuiet P.Pages pages.old pages.new }
 {
-    let Some(child) = child_at(alloc, class, slots, slot, page, query)? else {
+    let next = child_at(alloc, class, slots, slot, page, query)?;
+    let Some(child) = next else {
         return Ok(());
     };
     let inner = fetch_level(pages, child, below)?;
