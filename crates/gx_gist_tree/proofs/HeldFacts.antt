@@ -31,9 +31,9 @@ all_back : {X : Type 0} (P : X → Type 0) (xs ys : List X) → All P (xs ++ ys)
 all_back P [] ys all = all
 all_back P (x ∷ xs) ys all = all_back P xs ys (All-tail P x (xs ++ ys) all)
 
-page_below : {K : Type 0} (count level : ℕ) (node : Node K level) → AllByRecursion (λ page. page < count) (pages_of K level node) → page_of K level node < count
-page_below count zero node below = below.0
-page_below count (suc level) node below = below.0
+page_below : (K : Type 0) (count level : ℕ) (node : Node K level) → AllByRecursion (λ page. page < count) (pages_of K level node) → page_of K level node < count
+page_below K count zero node below = below.0
+page_below K count (suc level) node below = below.0
 
 module _ {C V Q K : Type 0} (g : Ghosts C V Q K) (class : C) (leaf_valid : (v : V) → g.valid_value class v → g.valid_key class (g.leaf_of class v)) (pages : PageMap) (count : ℕ) where
   Sound : (level : ℕ) → K × Node K level → Type 0
@@ -63,7 +63,7 @@ module _ {C V Q K : Type 0} (g : Ghosts C V Q K) (class : C) (leaf_valid : (v : 
       let key = All-head (λ (i : K × Node K level). g.valid_key class i.0 × All (λ e. g.over class i.0 e.1) (entries level i.1) × IsTree (g.valid_value class) (g.valid_key class) (g.leaf_of class) (g.over class) level i.1) item items keys in
       let here = feet.all_left (λ (page : ℕ). page < count) (pages_of K level item.1) (flat_map (λ (i : K × Node K level). pages_of K level i.1) items) below in
       All-cons (Kept level) item items
-        (key.0, page_below count level item.1 here,
+        (key.0, page_below K count level item.1 here,
         step item.1 (All-head (λ (i : K × Node K level). Stands pages (g.spelling class) level i.1) item items stands) key.2
         (all_front (λ (e : Entry K). FitsFields e.0) (entries level item.1) (flat_map (λ (i : K × Node K level). entries level i.1) items) rows) here)
         (mutual_items level step items (All-tail (λ (i : K × Node K level). Stands pages (g.spelling class) level i.1) item items stands)
@@ -84,7 +84,7 @@ module _ {C V Q K : Type 0} (g : Ghosts C V Q K) (class : C) (leaf_valid : (v : 
     pub root_there : (root ≢ 0 → root < count → (bytes : List ℕ) → pages root ≡ Some bytes → ¬ IsSlotPage bytes 4) → ⊥
     root_there broken =
         let on = is_on g class pages count tree.0 tree.1 held_sound in
-        let low = page_below count tree.0 tree.1 held.below in
+        let low = page_below K count tree.0 tree.1 held.below in
         let slots = slots_of (g.spelling class) tree.0 tree.1 in
         broken (λ none. on.some (held.begins ∙ none)) (subst (λ (n : ℕ). n < count) held.begins low) (spelling slots) (ap (λ (n : ℕ). pages n) (sym held.begins) ∙ on.is)
         (slots, refl, on.fits, flat_kind g class pages count tree.0 tree.1)
@@ -98,12 +98,12 @@ module _ {C V Q K : Type 0} (g : Ghosts C V Q K) (class : C) (leaf_valid : (v : 
     root_flat slots one = ap (λ (s : Slots). s.level) (root_read slots one).is ∙ flat_level g class pages count tree.0 tree.1
 
 -- how many pages there are below a page, with itself
-pages_all : {K : Type 0} (level : ℕ) → ((node : Node K level) → HasTwoItems K level node → 2 ^ suc level ≤ length (pages_of K level node) + 1)
+pages_all : (K : Type 0) (level : ℕ) → ((node : Node K level) → HasTwoItems K level node → 2 ^ suc level ≤ length (pages_of K level node) + 1)
     → (items : List (K × Node K level)) → All (λ item. HasTwoItems K level item.1) items → length items * (2 ^ suc level) ≤ length (flat_map (λ item. pages_of K level item.1) items) + length items
-pages_all level step [] all = omega arith
-pages_all {K} level step (item ∷ items) all =
+pages_all K level step [] all = omega arith
+pages_all K level step (item ∷ items) all =
     let here = step item.1 (All-head (λ (i : K × Node K level). HasTwoItems K level i.1) item items all) in
-    let rest = pages_all level step items (All-tail (λ (i : K × Node K level). HasTwoItems K level i.1) item items all) in
+    let rest = pages_all K level step items (All-tail (λ (i : K × Node K level). HasTwoItems K level i.1) item items all) in
     let len = length-append (pages_of K level item.1) (flat_map (λ (i : K × Node K level). pages_of K level i.1) items) in
     let more : suc (length items) * (2 ^ suc level) ≡ length items * (2 ^ suc level) + 2 ^ suc level = suc-mul (length items) (2 ^ suc level) in
     omega (arith, here, rest, len, more)
@@ -122,10 +122,10 @@ pow_some : (level : ℕ) → 1 ≤ 2 ^ level
 pow_some zero = omega arith
 pow_some (suc level) = let rest = pow_some level in let e : 2 ^ suc level ≡ 2 ^ level * 2 = pow-suc 2 level in omega (arith, rest, e)
 
-pub many_pages : {K : Type 0} (level : ℕ) (node : Node K level) → HasTwoItems K level node → 2 ^ suc level ≤ length (pages_of K level node) + 1
-many_pages zero node two = omega arith
-many_pages {K} (suc level) node two =
-    let all = pages_all level (many_pages level) node.1 two.1 in
+pub many_pages : (K : Type 0) (level : ℕ) (node : Node K level) → HasTwoItems K level node → 2 ^ suc level ≤ length (pages_of K level node) + 1
+many_pages K zero node two = omega arith
+many_pages K (suc level) node two =
+    let all = pages_all K level (many_pages K level) node.1 two.1 in
     let some = two_at (length node.1) (2 ^ suc level) (length (flat_map (λ (i : K × Node K level). pages_of K level i.1) node.1)) (pow_some (suc level)) two.0 all in
     let e : 2 ^ suc (suc level) ≡ 2 ^ suc level * 2 = pow-suc 2 (suc level) in
     omega (arith, some, e)
@@ -134,11 +134,11 @@ pow_grows : (m n : ℕ) → m ≤ n → 2 ^ m ≤ 2 ^ n
 pow_grows m n le = pow-le-pow_right (lit< tt) le
 
 -- levels are below 50 in a tree on at most 2^50 pages
-pub low_level : {K : Type 0} (level : ℕ) (node : Node K level) (count : ℕ) → HasTwoItems K level node → IsApart (pages_of K level node) → AllByRecursion (λ page. page < count) (pages_of K level node)
+pub low_level : (K : Type 0) (level : ℕ) (node : Node K level) (count : ℕ) → HasTwoItems K level node → IsApart (pages_of K level node) → AllByRecursion (λ page. page < count) (pages_of K level node)
     → count ≤ 2 ^ 50 → 50 ≤ level → ⊥
-low_level {K} level node count two apart below most high =
+low_level K level node count two apart below most high =
     let few = feet.apart_few count (pages_of K level node) apart below in
-    let many = many_pages level node two in
+    let many = many_pages K level node two in
     let big : 2 ^ 51 ≤ 2 ^ suc level = pow_grows 51 (suc level) (omega (arith, high)) in
     omega (arith, few, many, big, most)
 
@@ -170,9 +170,15 @@ twice_none {K} p es apart twice =
     omega (arith, there, first, second, times_some n p es, feet.apart_once (map (λ (e : Entry K). e.0.number) es) apart n)
 
 -- a count that changes only where a page was found broken, and none can be
-pub kept_by_cause : (e : PageError) (a b : ℕ) (B : ℕ → ℕ → ℕ → Type 0) (S : ℕ → Type 0) (M : Type 0) (X : Type 0) → HasCause a b B S M e → ((at x y : ℕ) → B at x y → ⊥)
-    → (IsUnbroken {T = ℕ} (Err e) → X) → X
-kept_by_cause DiskFault a b B S M X cause none stays = stays tt
-kept_by_cause (Broken at x y) a b B S M X cause none stays = absurd (none at x y cause.1)
-kept_by_cause (PageSpace pages) a b B S M X cause none stays = stays tt
-kept_by_cause Memory a b B S M X cause none stays = stays tt
+pub kept_by_cause : (T : Type 0) (e : PageError) (a b : ℕ) (B : ℕ → ℕ → ℕ → Type 0) (S : ℕ → Type 0) (M : Type 0) (X : Type 0) → HasCause a b B S M e → ((at x y : ℕ) → B at x y → ⊥)
+    → (IsUnbroken {T = T} (Err e) → X) → X
+kept_by_cause T DiskFault a b B S M X cause none stays = stays tt
+kept_by_cause T (Broken at x y) a b B S M X cause none stays = absurd (none at x y cause.1)
+kept_by_cause T (PageSpace pages) a b B S M X cause none stays = stays tt
+kept_by_cause T Memory a b B S M X cause none stays = stays tt
+
+-- a level that is too high
+pub level_cause : (e : PageError) (page level a b : ℕ) (B : ℕ → ℕ → ℕ → Type 0) (S : ℕ → Type 0) → (e ≡ Broken page 49 level) × (50 ≤ level) → (50 ≤ level → B page 49 level) → HasCause a b B S (Unit {0}) e
+level_cause e page level a b B S high has =
+    let h = high.1 in
+    subst (λ (x : PageError). HasCause a b B S (Unit {0}) x) (sym high.0) ((λ same. omega (arith, same, h)), has h)

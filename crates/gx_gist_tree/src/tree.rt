@@ -112,9 +112,9 @@ impl<C: OnBytes> Tree<C> {
         visit_page(alloc, &self.class, pages, &root, self.root, level, query, &mut so_far)?;
         search_is_exact(&self.class, query);
         let Found { rows, seen: _seen } = so_far;
-        let Some(rows) = Bitmap::of(rows) else {
+        let Some(bitmap) = Bitmap::of(rows) else {
             return Err(no_item(self.root));
         };
-        Ok(rows)
+        Ok(bitmap)
     }
 }
