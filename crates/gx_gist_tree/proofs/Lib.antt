@@ -4,5 +4,7 @@ mod ItemFacts
 mod MadeFacts
 mod Places
 mod SeenFacts
+mod StayFacts
+mod StripFacts
 mod TreeFacts
 mod VisitFacts

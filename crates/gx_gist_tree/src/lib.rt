@@ -6,6 +6,7 @@ mod found;
 mod items;
 mod laws;
 mod reading;
+mod removal;
 mod search;
 mod seen;
 mod tree;

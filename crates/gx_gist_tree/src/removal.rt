@@ -1,0 +1,98 @@
+//! Rows are taken out of a tree.
+
+ghost use Rattle.std.specs.Prelude.{◌≡◌, ◌≢◌, ◌⊎◌, ℕ, suc, ◌^◌, ◌<◌, ◌≤◌, List, [], ◌∷◌, ◌++◌, map, Option, Some, None, All, true, false, IsSome, IfOk, IfErr, IfSome, OnOk};
+ghost use Rattle.std.specs.Option.{option_map};
+ghost use Rattle.gx_pages.specs.declared.row.RowRef.{RowRef};
+ghost use Rattle.gx_pages.specs.Frees.{IsApart};
+ghost use Rattle.gx_pages.specs.Footprints.{ChangesOnly, IsOutside, StaysQuiet};
+ghost use Rattle.gx_pages.specs.Pages.{HasCause};
+ghost use Rattle.gx_slot.specs.Slots.{item_at};
+ghost use Rattle.gx_chain.specs.Chains.{IsSound as IsUnbroken};
+ghost use Rattle.gx_gist_tree.specs.Trees.{Entry, Node, kept_slot, pages_of, stripped};
+ghost use Rattle.gx_gist_tree.specs.OnPages.{AreFresh, FitsFields, IsBelow, IsRead, Stands, is_in, leaf_item, inner_item};
+
+use crate::items::{inner_parts, leaf_parts};
+use crate::reading::{fetch_level, no_item};
+use crate::seen::Seen;
+use gx_gist::GistClass;
+use gx_pages::{Bitmap, PageError, Pages};
+use gx_slot::SlotPage;
+
+/// Tells whether the slot of a page of level 0 has one of these rows.
+fn is_gone(slots: &SlotPage, slot: u16, page: u64, rows: &Bitmap) -> Result<bool, PageError>
+    ensures none { item_at slots.now.items slot ≡ None → IfOk result (λ gone. gone ≡ false) }
+    ensures some { (row : RowRef) (key : List ℕ) → FitsFields row → item_at slots.now.items slot ≡ Some (leaf_item (λ bytes. bytes) (row, key)) → IfOk result (λ gone. gone ≡ is_in rows.now row.number) }
+    ensures there { IfOk result (λ gone. gone ≡ true → IsSome (item_at slots.now.items slot)) }
+    ensures cause { IfErr result (λ error. (error ≡ PageError.Broken page 1 0)
+        × ((item_at slots.now.items slot ≡ None → ⊥) × ((row : RowRef) (key : List ℕ) → item_at slots.now.items slot ≡ Some (leaf_item (λ bytes. bytes) (row, key)) → ⊥))) }
+{
+    let Some(item) = slots.item(slot) else {
+        return Ok(false);
+    };
+    let Some((row, _key)) = leaf_parts(item) else {
+        return Err(no_item(page));
+    };
+    Ok(rows.has(row.number))
+}
+
+/// Empties the slots of these rows on a page of level 0. Tells whether there were any.
+fn empty_slots(slots: &mut SlotPage, page: u64, rows: &Bitmap) -> Result<bool, PageError>
+    ensures emptied { OnOk result ((entries : List (Option (Entry (List ℕ)))) → All (λ slot. IfSome slot (λ e. FitsFields e.0)) entries
+        → slots.old.items ≡ map (option_map (leaf_item (λ bytes. bytes))) entries
+        → slots.new.items ≡ map (option_map (leaf_item (λ bytes. bytes))) (map (kept_slot (λ e. is_in rows.now e.0.number)) entries)) }
+    ensures rest { slots.new ≡ record slots.old { items = slots.new.items } }
+    ensures same { IfOk result (λ changed. changed ≡ false → slots.new ≡ slots.old) }
+    ensures cause { IfErr result (λ error. (error ≡ PageError.Broken page 1 0)
+        × ((entries : List (Option (Entry (List ℕ)))) → All (λ slot. IfSome slot (λ e. FitsFields e.0)) entries → slots.old.items ≡ map (option_map (leaf_item (λ bytes. bytes))) entries → ⊥)) }
+{
+    let mut changed = false;
+    for slot in 0..slots.count() {
+        let gone = is_gone(slots, slot, page, rows)?;
+        if gone {
+            slots.remove(slot);
+            changed = true;
+        }
+    }
+    Ok(changed)
+}
+
+/// The page below a slot's item.
+pub fn child_in(slots: &SlotPage, slot: u16, page: u64) -> Result<u64, PageError>
+    ensures some { (child : ℕ) (key : List ℕ) → child < 2 ^ 64 → item_at slots.now.items slot ≡ Some (inner_item (λ bytes. bytes) child key) → IfOk result (λ below. below ≡ child) }
+    ensures cause { IfErr result (λ error. (error ≡ PageError.Broken page 1 0)
+        × ((child : ℕ) (key : List ℕ) → item_at slots.now.items slot ≡ Some (inner_item (λ bytes. bytes) child key) → ⊥)) }
+{
+    let Some(item) = slots.item(slot) else {
+        return Err(no_item(page));
+    };
+    let Some((child, _key)) = inner_parts(item) else {
+        return Err(no_item(page));
+    };
+    Ok(child)
+}
+
+/// Takes rows out of a page of level 0.
+fn strip_leaf<P: Pages, C: GistClass>(
+    class: &C,
+    pages: &mut P,
+    slots: &mut SlotPage,
+    page: u64,
+    rows: &Bitmap,
+) -> Result<(), PageError>
+    requires nonzero { page ≢ 0 }
+    requires below { page < P.count pages.old }
+    ensures stripped { OnOk result (P.tells → (node : Node C.Key 0) → IsRead C.GistClass class.now (P.map pages.old) (P.count pages.old) 0 node slots.old page
+        → Stands (P.map pages.new) (C.spelling class.now) 0 (stripped (λ e. is_in rows.now e.0.number) 0 node) × ChangesOnly (P.map pages.old) (P.map pages.new) (pages_of C.Key 0 node)) }
+    ensures cause { IfErr result (HasCause (P.faults pages.old) (P.faults pages.new)
+        (λ at expected found. P.tells → (node : Node C.Key 0) → IsRead C.GistClass class.now (P.map pages.old) (P.count pages.old) 0 node slots.old page → ⊥) (λ _. ⊥) (Unit {0})) }
+    ensures count { P.count pages.new ≡ P.count pages.old }
+    ensures other { P.heap_fetches pages.new ≡ P.heap_fetches pages.old }
+    ensures quiet { StaysQuiet P.Pages pages.old pages.new }
+{
+    let changed = empty_slots(slots, page, rows)?;
+    if !changed {
+        return Ok(());
+    }
+    pages.put(page, slots.page())?;
+    Ok(())
+}
