@@ -6,5 +6,7 @@ mod Places
 mod SeenFacts
 mod StayFacts
 mod StripFacts
+mod StripHeld
+mod StripWalk
 mod TreeFacts
 mod VisitFacts

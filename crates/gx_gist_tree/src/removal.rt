@@ -83,6 +83,7 @@ fn strip_leaf<P: Pages, C: GistClass>(
     requires below { page < P.count pages.old }
     ensures stripped { OnOk result (P.tells → (node : Node C.Key 0) → IsRead C.GistClass class.now (P.map pages.old) (P.count pages.old) 0 node slots.old page
         → Stands (P.map pages.new) (C.spelling class.now) 0 (stripped (λ e. is_in rows.now e.0.number) 0 node) × ChangesOnly (P.map pages.old) (P.map pages.new) (pages_of C.Key 0 node)) }
+    ensures zero { OnOk result (P.tells → P.map pages.new 0 ≡ P.map pages.old 0) }
     ensures cause { IfErr result (HasCause (P.faults pages.old) (P.faults pages.new)
         (λ at expected found. P.tells → (node : Node C.Key 0) → IsRead C.GistClass class.now (P.map pages.old) (P.count pages.old) 0 node slots.old page → ⊥) (λ _. ⊥) (Unit {0})) }
     ensures count { P.count pages.new ≡ P.count pages.old }
@@ -94,5 +95,100 @@ fn strip_leaf<P: Pages, C: GistClass>(
         return Ok(());
     }
     pages.put(page, slots.page())?;
+    Ok(())
+}
+
+/// Takes rows out below a page, which is read already.
+#[cycle(strip)]
+pub fn strip_page<P: Pages, C: GistClass>(
+    class: &C,
+    pages: &mut P,
+    slots: &mut SlotPage,
+    page: u64,
+    level: u8,
+    rows: &Bitmap,
+    seen: &mut Seen,
+) -> Result<(), PageError>
+    requires nonzero { page ≢ 0 }
+    requires below { page < P.count pages.old }
+    ensures stripped { OnOk result (P.tells → (node : Node C.Key level) → IsRead C.GistClass class.now (P.map pages.old) (P.count pages.old) level node slots.old page → IsApart (pages_of C.Key level node)
+        → Stands (P.map pages.new) (C.spelling class.now) level (stripped (λ e. is_in rows.now e.0.number) level node) × ChangesOnly (P.map pages.old) (P.map pages.new) (pages_of C.Key level node)) }
+    ensures seen { OnOk result (P.tells → (node : Node C.Key level) → IsRead C.GistClass class.now (P.map pages.old) (P.count pages.old) level node slots.old page → IsApart (pages_of C.Key level node)
+        → (n : ℕ) → IsOutside n seen.old → IsOutside n (pages_of C.Key level node) → IsOutside n seen.new) }
+    ensures zero { OnOk result (P.tells → P.map pages.new 0 ≡ P.map pages.old 0) }
+    ensures cause { IfErr result (HasCause (P.faults pages.old) (P.faults pages.new)
+        (λ at expected found. P.tells → (node : Node C.Key level) → IsRead C.GistClass class.now (P.map pages.old) (P.count pages.old) level node slots.old page → AreFresh seen.old (pages_of C.Key level node) → ⊥) (λ _. ⊥) (Unit {0})) }
+    ensures count { P.count pages.new ≡ P.count pages.old }
+    ensures other { IsUnbroken result → P.heap_fetches pages.new ≡ P.heap_fetches pages.old }
+    ensures quiet { StaysQuiet P.Pages pages.old pages.new }
+{
+    if level == 0 {
+        strip_leaf(class, pages, slots, page, rows)?;
+        return Ok(());
+    }
+    strip_items(class, pages, slots, page, level - 1, rows, seen)?;
+    Ok(())
+}
+
+/// Takes rows out below the items of a page; `below` is the level below it.
+#[cycle(strip)]
+fn strip_items<P: Pages, C: GistClass>(
+    class: &C,
+    pages: &mut P,
+    slots: &SlotPage,
+    page: u64,
+    below: u8,
+    rows: &Bitmap,
+    seen: &mut Seen,
+) -> Result<(), PageError>
+    ensures stripped { OnOk result (P.tells → (node : Node C.Key (suc below)) → IsRead C.GistClass class.now (P.map pages.old) (P.count pages.old) (suc below) node slots.now page → IsApart (pages_of C.Key (suc below) node)
+        → Stands (P.map pages.new) (C.spelling class.now) (suc below) (stripped (λ e. is_in rows.now e.0.number) (suc below) node) × ChangesOnly (P.map pages.old) (P.map pages.new) (pages_of C.Key (suc below) node)) }
+    ensures seen { OnOk result (P.tells → (node : Node C.Key (suc below)) → IsRead C.GistClass class.now (P.map pages.old) (P.count pages.old) (suc below) node slots.now page → IsApart (pages_of C.Key (suc below) node)
+        → (n : ℕ) → IsOutside n seen.old → IsOutside n (pages_of C.Key (suc below) node) → IsOutside n seen.new) }
+    ensures zero { OnOk result (P.tells → P.map pages.new 0 ≡ P.map pages.old 0) }
+    ensures cause { IfErr result (HasCause (P.faults pages.old) (P.faults pages.new)
+        (λ at expected found. P.tells → (node : Node C.Key (suc below)) → IsRead C.GistClass class.now (P.map pages.old) (P.count pages.old) (suc below) node slots.now page → AreFresh seen.old (pages_of C.Key (suc below) node) → ⊥) (λ _. ⊥) (Unit {0})) }
+    ensures count { P.count pages.new ≡ P.count pages.old }
+    ensures other { IsUnbroken result → P.heap_fetches pages.new ≡ P.heap_fetches pages.old }
+    ensures quiet { StaysQuiet P.Pages pages.old pages.new }
+{
+    let Ok(fresh) = seen.add(page) else {
+        return Err(PageError::Memory);
+    };
+    if !fresh {
+        return Err(no_item(page));
+    }
+    for slot in 0..slots.count() {
+        strip_slot(class, pages, slots, slot, page, below, rows, seen)?;
+    }
+    Ok(())
+}
+
+/// Takes rows out below an item.
+#[cycle(strip)]
+fn strip_slot<P: Pages, C: GistClass>(
+    class: &C,
+    pages: &mut P,
+    slots: &SlotPage,
+    slot: u16,
+    page: u64,
+    below: u8,
+    rows: &Bitmap,
+    seen: &mut Seen,
+) -> Result<(), PageError>
+    ensures stripped { OnOk result (P.tells → (key : C.Key) (child : Node C.Key below) → IsBelow C.GistClass class.now (P.map pages.old) (P.count pages.old) below key child slots.now slot → IsApart (pages_of C.Key below child)
+        → Stands (P.map pages.new) (C.spelling class.now) below (stripped (λ e. is_in rows.now e.0.number) below child) × ChangesOnly (P.map pages.old) (P.map pages.new) (pages_of C.Key below child)) }
+    ensures seen { OnOk result (P.tells → (key : C.Key) (child : Node C.Key below) → IsBelow C.GistClass class.now (P.map pages.old) (P.count pages.old) below key child slots.now slot → IsApart (pages_of C.Key below child)
+        → (n : ℕ) → IsOutside n seen.old → IsOutside n (pages_of C.Key below child) → IsOutside n seen.new) }
+    ensures zero { OnOk result (P.tells → P.map pages.new 0 ≡ P.map pages.old 0) }
+    ensures cause { IfErr result (HasCause (P.faults pages.old) (P.faults pages.new)
+        (λ at expected found. P.tells → (key : C.Key) (child : Node C.Key below) → IsBelow C.GistClass class.now (P.map pages.old) (P.count pages.old) below key child slots.now slot → AreFresh seen.old (pages_of C.Key below child) → ⊥) (λ _. ⊥) (Unit {0})) }
+    ensures count { P.count pages.new ≡ P.count pages.old }
+    ensures other { IsUnbroken result → P.heap_fetches pages.new ≡ P.heap_fetches pages.old }
+    ensures quiet { StaysQuiet P.Pages pages.old pages.new }
+{
+    let child = child_in(slots, slot, page)?;
+    let mut inner = fetch_level(pages, child, below)?;
+    strip_page(class, pages, &mut inner, child, below, rows, seen)?;
     Ok(())
 }
