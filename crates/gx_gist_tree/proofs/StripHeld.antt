@@ -42,12 +42,16 @@ pub entries_stripped : {K : Type 0} (gone : Entry K → Bool) (level : ℕ) (nod
 entries_stripped gone zero node = slots_stripped gone node.1
 entries_stripped gone (suc level) node = entries_items gone level (entries_stripped gone level) node.1
 
+abbrev head_of : (K : Type 0) (level : ℕ) → K × Node K level → ℕ × K
+head_of K level item = (page_of K level item.1, item.0)
+
 heads_same : {K : Type 0} (gone : Entry K → Bool) (level : ℕ) (items : List (K × Node K level))
-    → map (λ (item : K × Node K level). (page_of K level item.1, item.0)) (map (λ (item : K × Node K level). (item.0, stripped gone level item.1)) items) ≡ map (λ (item : K × Node K level). (page_of K level item.1, item.0)) items
+    → map (head_of K level) (map (λ (item : K × Node K level). (item.0, stripped gone level item.1)) items) ≡ map (head_of K level) items
 heads_same gone level [] = refl
 heads_same {K} gone level (item ∷ items) =
-    ap (λ (n : ℕ). (n, item.0) ∷ map (λ (i : K × Node K level). (page_of K level i.1, i.0)) (map (λ (i : K × Node K level). (i.0, stripped gone level i.1)) items)) (page_stripped gone level item.1)
-    ∙ ap (λ (l : List (ℕ × K)). (page_of K level item.1, item.0) ∷ l) (heads_same gone level items)
+    let key : ℕ → ℕ × K = λ n. (n, item.0) in
+    ap (λ (n : ℕ). key n ∷ map (head_of K level) (map (λ (i : K × Node K level). (i.0, stripped gone level i.1)) items)) (page_stripped gone level item.1)
+    ∙ ap (λ (l : List (ℕ × K)). head_of K level item ∷ l) (heads_same gone level items)
 
 above_items : {K : Type 0} (gone : Entry K → Bool) (level : ℕ) → ((node : Node K level) → items_above K level (stripped gone level node) ≡ items_above K level node) → (items : List (K × Node K level))
     → flat_map (λ (item : K × Node K level). items_above K level item.1) (map (λ (item : K × Node K level). (item.0, stripped gone level item.1)) items) ≡ flat_map (λ (item : K × Node K level). items_above K level item.1) items
@@ -60,7 +64,7 @@ pub above_stripped : {K : Type 0} (gone : Entry K → Bool) (level : ℕ) (node 
 above_stripped gone zero node = refl
 above_stripped {K} gone (suc level) node =
     ap (λ (l : List (ℕ × K)). l ++ flat_map (λ (i : K × Node K level). items_above K level i.1) (map (λ (i : K × Node K level). (i.0, stripped gone level i.1)) node.1)) (heads_same gone level node.1)
-    ∙ ap (λ (l : List (ℕ × K)). map (λ (i : K × Node K level). (page_of K level i.1, i.0)) node.1 ++ l) (above_items gone level (above_stripped gone level) node.1)
+    ∙ ap (λ (l : List (ℕ × K)). map (head_of K level) node.1 ++ l) (above_items gone level (above_stripped gone level) node.1)
 
 two_items : (K : Type 0) (gone : Entry K → Bool) (level : ℕ) → ((node : Node K level) → HasTwoItems K level node → HasTwoItems K level (stripped gone level node)) → (items : List (K × Node K level))
     → All (λ item. HasTwoItems K level item.1) items → All (λ (item : K × Node K level). HasTwoItems K level item.1) (map (λ (item : K × Node K level). (item.0, stripped gone level item.1)) items)
@@ -76,7 +80,7 @@ length_mapped f (x ∷ xs) = let rest = length_mapped f xs in omega arith
 two_stripped : (K : Type 0) (gone : Entry K → Bool) (level : ℕ) (node : Node K level) → HasTwoItems K level node → HasTwoItems K level (stripped gone level node)
 two_stripped K gone zero node two = two
 two_stripped K gone (suc level) node two =
-    let len = length_mapped (λ (i : K × Node K level). (i.0, stripped gone level i.1)) node.1 in
+    let len = length_mapped {Y = K × Node K level} (λ (i : K × Node K level). (i.0, stripped gone level i.1)) node.1 in
     let some = two.0 in
     (omega (arith, len, some), two_items K gone level (two_stripped K gone level) node.1 two.1)
 

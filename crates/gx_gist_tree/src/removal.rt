@@ -1,22 +1,25 @@
 //! Rows are taken out of a tree.
 
-ghost use Rattle.std.specs.Prelude.{◌≡◌, ◌≢◌, ◌⊎◌, ℕ, suc, ◌^◌, ◌<◌, ◌≤◌, List, [], ◌∷◌, ◌++◌, map, Option, Some, None, All, true, false, IsSome, IfOk, IfErr, IfSome, OnOk};
+ghost use Rattle.std.specs.Prelude.{◌≡◌, ◌≢◌, ◌⊎◌, ℕ, suc, ◌^◌, ◌<◌, ◌≤◌, List, [], ◌∷◌, ◌++◌, map, filter, not, Option, Some, None, All, true, false, IsSome, IfOk, IfErr, IfSome, OnOk};
 ghost use Rattle.std.specs.Option.{option_map};
 ghost use Rattle.gx_pages.specs.declared.row.RowRef.{RowRef};
 ghost use Rattle.gx_pages.specs.Frees.{IsApart};
-ghost use Rattle.gx_pages.specs.Footprints.{ChangesOnly, IsOutside, StaysQuiet};
+ghost use Rattle.gx_pages.specs.Footprints.{ChangesOnly, IsOutside, KeepsPages, StaysQuiet};
 ghost use Rattle.gx_pages.specs.Pages.{HasCause};
 ghost use Rattle.gx_slot.specs.Slots.{item_at};
 ghost use Rattle.gx_chain.specs.Chains.{IsSound as IsUnbroken};
-ghost use Rattle.gx_gist_tree.specs.Trees.{Entry, Node, kept_slot, pages_of, stripped};
-ghost use Rattle.gx_gist_tree.specs.OnPages.{AreFresh, FitsFields, IsBelow, IsRead, Stands, is_in, leaf_item, inner_item};
+ghost use Rattle.gx_gist_tree.specs.Trees.{Entry, Node, items_above, kept_slot, pages_of, stripped};
+ghost use Rattle.gx_gist_tree.specs.OnPages.{AreFresh, FitsFields, Holds, HoldsBeside, IsBelow, IsRead, Stands, Whole, entries_of, footprint, is_in, leaf_item, inner_item};
 
-use crate::items::{inner_parts, leaf_parts};
-use crate::reading::{fetch_level, no_item};
+use crate::items::{GIST, inner_parts, leaf_parts};
+use crate::reading::{fetch_level, no_item, root_level};
 use crate::seen::Seen;
-use gx_gist::GistClass;
+use crate::tree::Tree;
+use gx_chain::fetch_slots;
+use gx_gist::{GistClass, OnBytes};
 use gx_pages::{Bitmap, PageError, Pages};
 use gx_slot::SlotPage;
+use std::alloc::Global;
 
 /// Tells whether the slot of a page of level 0 has one of these rows.
 fn is_gone(slots: &SlotPage, slot: u16, page: u64, rows: &Bitmap) -> Result<bool, PageError>
@@ -191,4 +194,57 @@ fn strip_slot<P: Pages, C: GistClass>(
     let mut inner = fetch_level(pages, child, below)?;
     strip_page(class, pages, &mut inner, child, below, rows, seen)?;
     Ok(())
+}
+
+impl<C: OnBytes> Tree<C> {
+    /// Takes the rows with the numbers of these out. No key above level 0 changes, and no page is given back. Broken where the map
+    /// doesn't hold the tree.
+    pub fn remove_rows<P: Pages>(
+        &mut self,
+        alloc: Global,
+        pages: &mut P,
+        rows: &Bitmap,
+    ) -> Result<(), PageError>
+        requires class { C.valid self.old.class }
+        ensures removed { OnOk result (P.tells → (before : Whole C.Key) (free : List ℕ) → HoldsBeside P.Pages C.GistClass self.old.class pages.old self.old.root before free
+            → (later : Whole C.Key) × HoldsBeside P.Pages C.GistClass self.old.class pages.new self.old.root later free
+            × (entries_of later ≡ filter (λ e. not (is_in rows.now e.0.number)) (entries_of before))
+            × (items_above C.Key later.0 later.1 ≡ items_above C.Key before.0 before.1) × (footprint later ≡ footprint before)
+            × KeepsPages P.Pages pages.old pages.new (footprint before) free (footprint before) free) }
+        ensures same { self.new ≡ self.old }
+        ensures count { P.count pages.new ≡ P.count pages.old }
+        ensures cause { IfErr result (HasCause (P.faults pages.old) (P.faults pages.new)
+            (λ at expected found. P.tells → (before : Whole C.Key) → ¬ Holds C.GistClass self.old.class (P.map pages.old) (P.count pages.old) self.old.root before) (λ _. ⊥) (Unit {0})) }
+        ensures heap { P.tells → (before : Whole C.Key) → Holds C.GistClass self.old.class (P.map pages.old) (P.count pages.old) self.old.root before
+            → P.heap_fetches pages.new ≡ P.heap_fetches pages.old }
+        ensures quiet { StaysQuiet P.Pages pages.old pages.new }
+    {
+        self.strip(alloc, pages, rows)?;
+        Ok(())
+    }
+
+    fn strip<P: Pages>(
+        &self,
+        alloc: Global,
+        pages: &mut P,
+        rows: &Bitmap,
+    ) -> Result<(), PageError>
+        requires class { C.valid self.now.class }
+        ensures removed { OnOk result (P.tells → (before : Whole C.Key) (free : List ℕ) → HoldsBeside P.Pages C.GistClass self.now.class pages.old self.now.root before free
+            → (later : Whole C.Key) × HoldsBeside P.Pages C.GistClass self.now.class pages.new self.now.root later free
+            × (entries_of later ≡ filter (λ e. not (is_in rows.now e.0.number)) (entries_of before))
+            × (items_above C.Key later.0 later.1 ≡ items_above C.Key before.0 before.1) × (footprint later ≡ footprint before)
+            × KeepsPages P.Pages pages.old pages.new (footprint before) free (footprint before) free) }
+        ensures count { P.count pages.new ≡ P.count pages.old }
+        ensures cause { IfErr result (HasCause (P.faults pages.old) (P.faults pages.new)
+            (λ at expected found. P.tells → (before : Whole C.Key) → ¬ Holds C.GistClass self.now.class (P.map pages.old) (P.count pages.old) self.now.root before) (λ _. ⊥) (Unit {0})) }
+        ensures other { IsUnbroken result → P.heap_fetches pages.new ≡ P.heap_fetches pages.old }
+        ensures quiet { StaysQuiet P.Pages pages.old pages.new }
+    {
+        let mut root = fetch_slots(pages, self.root, GIST)?;
+        let level = root_level(&root, self.root)?;
+        let mut seen = Seen::new(alloc);
+        strip_page(&self.class, pages, &mut root, self.root, level, rows, &mut seen)?;
+        Ok(())
+    }
 }
