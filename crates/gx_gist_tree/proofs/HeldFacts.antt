@@ -46,9 +46,9 @@ module _ {C V Q K : Type 0} (g : Ghosts C V Q K) (class : C) (leaf_valid : (v : 
   slots_sound (Some e ∷ slots) keys rows =
       let leaf = All-head (λ (x : Entry K). IsLeafKey (g.valid_value class) (g.leaf_of class) x.1) e (filter_map (λ slot. slot) slots) keys in
       All-cons (λ (slot : Option (Entry K)). IfSome slot (λ x. g.valid_key class x.1 × FitsFields x.0)) (Some e) slots
-        (subst (g.valid_key class) (sym leaf.2) (leaf_valid leaf.0 leaf.1), All-head (λ (x : Entry K). FitsFields x.0) e (filter_map (λ slot. slot) slots) rows)
-        (slots_sound slots (All-tail (λ (x : Entry K). IsLeafKey (g.valid_value class) (g.leaf_of class) x.1) e (filter_map (λ slot. slot) slots) keys)
-        (All-tail (λ (x : Entry K). FitsFields x.0) e (filter_map (λ slot. slot) slots) rows))
+      (subst (g.valid_key class) (sym leaf.2) (leaf_valid leaf.0 leaf.1), All-head (λ (x : Entry K). FitsFields x.0) e (filter_map (λ slot. slot) slots) rows)
+      (slots_sound slots (All-tail (λ (x : Entry K). IsLeafKey (g.valid_value class) (g.leaf_of class) x.1) e (filter_map (λ slot. slot) slots) keys)
+      (All-tail (λ (x : Entry K). FitsFields x.0) e (filter_map (λ slot. slot) slots) rows))
 
   abbrev Kept : (level : ℕ) → K × Node K level → Type 0
   Kept level item = g.valid_key class item.0 × (page_of K level item.1 < count) × IsSound g class pages count level item.1
@@ -62,14 +62,16 @@ module _ {C V Q K : Type 0} (g : Ghosts C V Q K) (class : C) (leaf_valid : (v : 
   mutual_items level step (item ∷ items) stands keys rows below =
       let key = All-head (λ (i : K × Node K level). g.valid_key class i.0 × All (λ e. g.over class i.0 e.1) (entries level i.1) × IsTree (g.valid_value class) (g.valid_key class) (g.leaf_of class) (g.over class) level i.1) item items keys in
       let here = feet.all_left (λ (page : ℕ). page < count) (pages_of K level item.1) (flat_map (λ (i : K × Node K level). pages_of K level i.1) items) below in
-      All-cons (Kept level) item items
-        (key.0, page_below K count level item.1 here,
+      All-cons (Kept level) item items (
+        key.0,
+        page_below K count level item.1 here,
         step item.1 (All-head (λ (i : K × Node K level). Stands pages (g.spelling class) level i.1) item items stands) key.2
-        (all_front (λ (e : Entry K). FitsFields e.0) (entries level item.1) (flat_map (λ (i : K × Node K level). entries level i.1) items) rows) here)
-        (mutual_items level step items (All-tail (λ (i : K × Node K level). Stands pages (g.spelling class) level i.1) item items stands)
-        (All-tail (λ (i : K × Node K level). g.valid_key class i.0 × All (λ e. g.over class i.0 e.1) (entries level i.1) × IsTree (g.valid_value class) (g.valid_key class) (g.leaf_of class) (g.over class) level i.1) item items keys)
-        (all_back (λ (e : Entry K). FitsFields e.0) (entries level item.1) (flat_map (λ (i : K × Node K level). entries level i.1) items) rows)
-        (feet.all_right (λ (page : ℕ). page < count) (pages_of K level item.1) (flat_map (λ (i : K × Node K level). pages_of K level i.1) items) below))
+            (all_front (λ (e : Entry K). FitsFields e.0) (entries level item.1) (flat_map (λ (i : K × Node K level). entries level i.1) items) rows) here,
+      )
+      (mutual_items level step items (All-tail (λ (i : K × Node K level). Stands pages (g.spelling class) level i.1) item items stands)
+      (All-tail (λ (i : K × Node K level). g.valid_key class i.0 × All (λ e. g.over class i.0 e.1) (entries level i.1) × IsTree (g.valid_value class) (g.valid_key class) (g.leaf_of class) (g.over class) level i.1) item items keys)
+      (all_back (λ (e : Entry K). FitsFields e.0) (entries level item.1) (flat_map (λ (i : K × Node K level). entries level i.1) items) rows)
+      (feet.all_right (λ (page : ℕ). page < count) (pages_of K level item.1) (flat_map (λ (i : K × Node K level). pages_of K level i.1) items) below))
 
   pub sound_of : (level : ℕ) (node : Node K level) → Stands pages (g.spelling class) level node → IsTree (g.valid_value class) (g.valid_key class) (g.leaf_of class) (g.over class) level node
       → All (λ e. FitsFields e.0) (entries level node) → AllByRecursion (λ page. page < count) (pages_of K level node) → IsSound g class pages count level node

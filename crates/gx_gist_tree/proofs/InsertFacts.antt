@@ -68,7 +68,7 @@ module _ {V K : Type 0} (valid : V → Type 0) (valid_key : K → Type 0) (leaf_
   leaves_below level step [] all = All-nil (λ (e : Entry K). IsLeafKey valid leaf_of e.1)
   leaves_below level step (item ∷ items) all =
       All-append (λ (e : Entry K). IsLeafKey valid leaf_of e.1) (entries level item.1) (flat_map (λ (i : K × Node K level). entries level i.1) items)
-        (step item.1 (All-head (Sound level) item items all).2) (leaves_below level step items (All-tail (Sound level) item items all))
+      (step item.1 (All-head (Sound level) item items all).2) (leaves_below level step items (All-tail (Sound level) item items all))
 
   pub leaves_are : (level : ℕ) (node : Node K level) → IsTree valid valid_key leaf_of over level node → All (λ e. IsLeafKey valid leaf_of e.1) (entries level node)
   leaves_are zero node tree = tree
@@ -90,15 +90,15 @@ module _ {V K : Type 0} (valid : V → Type 0) (valid_key : K → Type 0) (leaf_
   above_items level key (item ∷ items) all reach =
       let first = All-head (Sound level) item items all in
       All-append (λ (e : Entry K). over key e.1) (entries level item.1) (flat_map (λ (i : K × Node K level). entries level i.1) items)
-        (over_one key item.0 (entries level item.1) (λ l is h. reach item.0 l (zero, omega arith, refl) is h) (leaves_are level item.1 first.2) first.1)
-        (above_items level key items (All-tail (Sound level) item items all) (λ x l has is h. reach x l (shifted item.0 (map (λ (i : K × Node K level). i.0) items) x has) is h))
+      (over_one key item.0 (entries level item.1) (λ l is h. reach item.0 l (zero, omega arith, refl) is h) (leaves_are level item.1 first.2) first.1)
+      (above_items level key items (All-tail (Sound level) item items all) (λ x l has is h. reach x l (shifted item.0 (map (λ (i : K × Node K level). i.0) items) x has) is h))
 
   above_leaves : (key : K) (es : List (Entry K)) → All (λ e. IsLeafKey valid leaf_of e.1) es → Reaches key (map (λ e. e.1) es) → All (λ e. over key e.1) es
   above_leaves key [] all reach = All-nil (λ (e : Entry K). over key e.1)
   above_leaves key (e ∷ es) all reach =
       let first = All-head (λ (x : Entry K). IsLeafKey valid leaf_of x.1) e es all in
       All-cons (λ (x : Entry K). over key x.1) e es (reach e.1 e.1 (zero, omega arith, refl) first (self_is e.1 first))
-        (above_leaves key es (All-tail (λ (x : Entry K). IsLeafKey valid leaf_of x.1) e es all) (λ x l has is h. reach x l (shifted e.1 (map (λ (y : Entry K). y.1) es) x has) is h))
+      (above_leaves key es (All-tail (λ (x : Entry K). IsLeafKey valid leaf_of x.1) e es all) (λ x l has is h. reach x l (shifted e.1 (map (λ (y : Entry K). y.1) es) x has) is h))
 
   keys_valid : (level : ℕ) (node : Node K level) → IsTree valid valid_key leaf_of over level node → All valid_key (keys_on level node)
   keys_valid zero node tree = All-map valid_key (λ (e : Entry K). e.1) (filter_map (λ slot. slot) node.1)
@@ -116,8 +116,7 @@ module _ {V K : Type 0} (valid : V → Type 0) (valid_key : K → Type 0) (leaf_
   united_above level node key tree (first, others, are, is) =
       let all : All valid_key (first ∷ others) = subst (All valid_key) are (keys_valid level node tree) in
       let vf = All-head valid_key first others all in
-      let vo = All-tail valid_key first others all in
-      (
+      let vo = All-tail valid_key first others all in (
         subst valid_key (sym is) (united_valid first others vf vo),
         reach_above level node key tree (λ x l has leaf h. subst (λ (k : K). over k l) (sym is) (united_some first others x l vf vo leaf (subst (λ (ks : List K). Contains ks x) are has) h)),
         tree,
@@ -143,7 +142,7 @@ module _ {V K : Type 0} (valid : V → Type 0) (valid_key : K → Type 0) (leaf_
   each_put P level k added (inl node) items is all = subst (All (Each P level)) (sym is) (All-cons (Each P level) (union k added, node) [] all (All-nil (Each P level)))
   each_put P level k added (inr both) items (l, r, ul, ur, is) all = subst (All (Each P level)) (sym is)
       (All-cons (Each P level) (l, both.0) ((r, both.1) ∷ []) (All-front P (entries level both.0) (entries level both.1) all)
-        (All-cons (Each P level) (r, both.1) [] (All-back P (entries level both.0) (entries level both.1) all) (All-nil (Each P level))))
+      (All-cons (Each P level) (r, both.1) [] (All-back P (entries level both.0) (entries level both.1) all) (All-nil (Each P level))))
 
   each_now : (P : Entry K → Type 0) (level : ℕ) (out : Outcome K (suc level)) → All (Each P level) (on_pages level out) → All P (now_on (suc level) out)
   each_now P level (inl node) all = each_out P level node.1 all
@@ -166,7 +165,7 @@ module _ {V K : Type 0} (valid : V → Type 0) (valid_key : K → Type 0) (leaf_
       let before : All (Each P level) (front ++ item ∷ back) = subst (All (Each P level)) is (each_in P level node.1 all) in
       let later = all_now row key P new level item.1 below ins (at_item (Each P level) front item back before) in
       each_now P level out (All-permutation (Each P level) (front ++ items ++ back) (on_pages level out) moved
-        (swapped (Each P level) front item back items before (each_put P level item.0 key below items replaced later)))
+      (swapped (Each P level) front item back items before (each_put P level item.0 key below items replaced later)))
 
   -- a page, or two, of a tree
   sound_put : (row : RowRef) (key : K) → IsLeafKey valid leaf_of key → (level : ℕ) (item : K × Node K level) (below : Outcome K level) (items : List (K × Node K level))
@@ -180,7 +179,7 @@ module _ {V K : Type 0} (valid : V → Type 0) (valid_key : K → Type 0) (leaf_
       subst (All (Sound level)) (sym is) (All-cons (Sound level) (union item.0 key, node) [] (union_valid item.0 key sound.0 vk, (λ i d h. (all i d h).1), tree) (All-nil (Sound level)))
   sound_put row key leaf level item (inr both) items sound ins trees (l, r, ul, ur, is) =
       subst (All (Sound level)) (sym is) (All-cons (Sound level) (l, both.0) ((r, both.1) ∷ []) (united_above level both.0 l trees.0 ul)
-        (All-cons (Sound level) (r, both.1) [] (united_above level both.1 r trees.1 ur) (All-nil (Sound level))))
+      (All-cons (Sound level) (r, both.1) [] (united_above level both.1 r trees.1 ur) (All-nil (Sound level))))
 
   sound_now : (level : ℕ) (out : Outcome K (suc level)) → All (Sound level) (on_pages level out) → AreTrees valid valid_key leaf_of over (suc level) out
   sound_now level (inl node) all = all
@@ -199,4 +198,4 @@ module _ {V K : Type 0} (valid : V → Type 0) (valid_key : K → Type 0) (leaf_
       let sound = at_item (Sound level) front item back before in
       let trees = insert_keeps row key leaf level item.1 below ins sound.2 in
       sound_now level out (All-permutation (Sound level) (front ++ items ++ back) (on_pages level out) moved
-        (swapped (Sound level) front item back items before (sound_put row key leaf level item below items sound ins trees replaced)))
+      (swapped (Sound level) front item back items before (sound_put row key leaf level item below items sound ins trees replaced)))

@@ -95,7 +95,7 @@ rows_in-append test (None ∷ xs) ys = rows_in-append test xs ys
 rows_in-append {K} test (Some e ∷ xs) ys =
     let rest = rows_in-append test xs ys in
     elim (passes (test e.1)) as (λ b. map (λ (x : Entry K). x.0) (if b then e ∷ filter (λ x. passes (test x.1)) (filter_map (λ slot. slot) (xs ++ ys)) else filter (λ x. passes (test x.1)) (filter_map (λ slot. slot) (xs ++ ys)))
-        ≡ map (λ (x : Entry K). x.0) (if b then e ∷ filter (λ x. passes (test x.1)) (filter_map (λ slot. slot) xs) else filter (λ x. passes (test x.1)) (filter_map (λ slot. slot) xs)) ++ rows_in test ys)
+    ≡ map (λ (x : Entry K). x.0) (if b then e ∷ filter (λ x. passes (test x.1)) (filter_map (λ slot. slot) xs) else filter (λ x. passes (test x.1)) (filter_map (λ slot. slot) xs)) ++ rows_in test ys)
     [ true ↦ ap (λ (l : List RowRef). e.0 ∷ l) rest | false ↦ rest ]
 
 -- one slot more

@@ -1,3 +1,4 @@
+mod DropWalk
 mod HeldFacts
 mod InsertFacts
 mod ItemFacts
@@ -5,6 +6,7 @@ mod MadeFacts
 mod Places
 mod SeenFacts
 mod StayFacts
+mod StayHeld
 mod StripFacts
 mod StripHeld
 mod StripWalk

@@ -25,8 +25,8 @@ module _ {K : Type 0} (old new : PageMap) (bytes : K → List ℕ) where
       let here = feet.all_left (λ (n : ℕ). new n ≡ old n) (pages_of K level item.1) (flat_map (λ (i : K × Node K level). pages_of K level i.1) items) same in
       let rest = feet.all_right (λ (n : ℕ). new n ≡ old n) (pages_of K level item.1) (flat_map (λ (i : K × Node K level). pages_of K level i.1) items) same in
       All-cons (λ (i : K × Node K level). Stands new bytes level i.1) item items
-        (step item.1 here (All-head (λ (i : K × Node K level). Stands old bytes level i.1) item items all))
-        (stands_items level step items rest (All-tail (λ (i : K × Node K level). Stands old bytes level i.1) item items all))
+      (step item.1 here (All-head (λ (i : K × Node K level). Stands old bytes level i.1) item items all))
+      (stands_items level step items rest (All-tail (λ (i : K × Node K level). Stands old bytes level i.1) item items all))
 
   pub stands_same : (level : ℕ) (node : Node K level) → AllByRecursion (λ n. new n ≡ old n) (pages_of K level node) → Stands old bytes level node → Stands new bytes level node
   stands_same zero node same stands = on_same zero node same.0 stands
@@ -51,8 +51,8 @@ module _ {C V Q K : Type 0} (g : Ghosts C V Q K) (class : C) (count : ℕ) where
   stands_in map level step [] all = All-nil (λ (item : K × Node K level). Stands map (g.spelling class) level item.1)
   stands_in map level step (item ∷ items) all =
       All-cons (λ (i : K × Node K level). Stands map (g.spelling class) level i.1) item items
-        (step item.1 (All-head (λ (i : K × Node K level). g.valid_key class i.0 × (page_of K level i.1 < count) × IsSound g class map count level i.1) item items all).2)
-        (stands_in map level step items (All-tail (λ (i : K × Node K level). g.valid_key class i.0 × (page_of K level i.1 < count) × IsSound g class map count level i.1) item items all))
+      (step item.1 (All-head (λ (i : K × Node K level). g.valid_key class i.0 × (page_of K level i.1 < count) × IsSound g class map count level i.1) item items all).2)
+      (stands_in map level step items (All-tail (λ (i : K × Node K level). g.valid_key class i.0 × (page_of K level i.1 < count) × IsSound g class map count level i.1) item items all))
 
   pub sound_stands : (map : PageMap) (level : ℕ) (node : Node K level) → IsSound g class map count level node → Stands map (g.spelling class) level node
   sound_stands map zero node sound = sound.0
@@ -69,8 +69,8 @@ module _ {C V Q K : Type 0} (g : Ghosts C V Q K) (class : C) (count : ℕ) where
         let rest = feet.all_right (λ (n : ℕ). new n ≡ old n) (pages_of K level item.1) (flat_map (λ (i : K × Node K level). pages_of K level i.1) items) same in
         let first = All-head (λ (i : K × Node K level). g.valid_key class i.0 × (page_of K level i.1 < count) × IsSound g class old count level i.1) item items all in
         All-cons (λ (i : K × Node K level). g.valid_key class i.0 × (page_of K level i.1 < count) × IsSound g class new count level i.1) item items
-          (first.0, first.1, step item.1 here first.2)
-          (sound_items level step items rest (All-tail (λ (i : K × Node K level). g.valid_key class i.0 × (page_of K level i.1 < count) × IsSound g class old count level i.1) item items all))
+        (first.0, first.1, step item.1 here first.2)
+        (sound_items level step items rest (All-tail (λ (i : K × Node K level). g.valid_key class i.0 × (page_of K level i.1 < count) × IsSound g class old count level i.1) item items all))
 
     pub sound_same : (level : ℕ) (node : Node K level) → AllByRecursion (λ n. new n ≡ old n) (pages_of K level node) → IsSound g class old count level node → IsSound g class new count level node
     sound_same zero node same sound = (record { some = sound.0.some; is = same.0 ∙ sound.0.is; fits = sound.0.fits }, sound.1)

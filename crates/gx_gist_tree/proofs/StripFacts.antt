@@ -22,9 +22,9 @@ tells (row ∷ rows) n =
     ⊎_elim
     (λ same. inl ((let h = same.0 in rw h refl), inl same.1))
     (λ other. ⊎_elim
-      (λ there. inl ((let h = other.0 in rw h there.0), inr there.1))
-      (λ none. inr ((let h = other.0 in rw h none.0), λ has. ⊎_elim other.1 none.1 has))
-      (tells rows n))
+    (λ there. inl ((let h = other.0 in rw h there.0), inr there.1))
+    (λ none. inr ((let h = other.0 in rw h none.0), λ has. ⊎_elim other.1 none.1 has))
+    (tells rows n))
     (eqb_tells row.number n)
 
 -- what the test of a number says
@@ -116,11 +116,11 @@ pub raw_fits : {K : Type 0} (valid : K → Type 0) (bytes : K → List ℕ) (ent
 raw_fits valid bytes [] all = All-nil (λ (slot : Option (Entry (List ℕ))). IfSome slot (λ e. FitsFields e.0))
 raw_fits {K} valid bytes (None ∷ entries) all =
     All-cons (λ (slot : Option (Entry (List ℕ))). IfSome slot (λ e. FitsFields e.0)) None (raw bytes entries) tt
-      (raw_fits valid bytes entries (All-tail (λ (slot : Option (Entry K)). IfSome slot (λ e. valid e.1 × FitsFields e.0)) None entries all))
+    (raw_fits valid bytes entries (All-tail (λ (slot : Option (Entry K)). IfSome slot (λ e. valid e.1 × FitsFields e.0)) None entries all))
 raw_fits {K} valid bytes (Some e ∷ entries) all =
     All-cons (λ (slot : Option (Entry (List ℕ))). IfSome slot (λ x. FitsFields x.0)) (Some (e.0, bytes e.1)) (raw bytes entries)
-      (All-head (λ (slot : Option (Entry K)). IfSome slot (λ x. valid x.1 × FitsFields x.0)) (Some e) entries all).1
-      (raw_fits valid bytes entries (All-tail (λ (slot : Option (Entry K)). IfSome slot (λ x. valid x.1 × FitsFields x.0)) (Some e) entries all))
+    (All-head (λ (slot : Option (Entry K)). IfSome slot (λ x. valid x.1 × FitsFields x.0)) (Some e) entries all).1
+    (raw_fits valid bytes entries (All-tail (λ (slot : Option (Entry K)). IfSome slot (λ x. valid x.1 × FitsFields x.0)) (Some e) entries all))
 
 raw_slot : {K : Type 0} (bytes : K → List ℕ) (rows : List RowRef) (e : Entry K) (b : Bool)
     → (if b then None else Some (leaf_item bytes e)) ≡ option_map (leaf_item bytes) (if b then None else Some e)
@@ -134,12 +134,12 @@ raw_kept bytes rows (None ∷ entries) = ap (λ (l : List (Option (List ℕ))). 
 raw_kept {K} bytes rows (Some e ∷ entries) =
     let rest = raw_kept bytes rows entries in
     elim (is_in rows e.0.number) as (λ b. option_map raw_item (if b then None else Some (e.0, bytes e.1)) ∷ raw_slots (map (kept_slot (λ x. is_in rows x.0.number)) (raw bytes entries))
-        ≡ option_map (leaf_item bytes) (if b then None else Some e) ∷ map (option_map (leaf_item bytes)) (map (kept_slot (λ x. is_in rows x.0.number)) entries))
+    ≡ option_map (leaf_item bytes) (if b then None else Some e) ∷ map (option_map (leaf_item bytes)) (map (kept_slot (λ x. is_in rows x.0.number)) entries))
     [ true ↦ ap (λ (l : List (Option (List ℕ))). None ∷ l) rest | false ↦ ap (λ (l : List (Option (List ℕ))). Some (leaf_item bytes e) ∷ l) rest ]
 
 module _ {C V Q K : Type 0} (g : Ghosts C V Q K) (class : C) (pages : PageMap) (count : ℕ) (rows : List RowRef) (node : Node K 0) (old new : Slots) (page : ℕ) (read : IsRead g class pages count 0 node old page)
     (emptied : (entries : List (Option (Entry (List ℕ)))) → All (λ slot. IfSome slot (λ e. FitsFields e.0)) entries → old.items ≡ raw_slots entries
-      → new.items ≡ raw_slots (map (kept_slot (λ e. is_in rows e.0.number)) entries))
+    → new.items ≡ raw_slots (map (kept_slot (λ e. is_in rows e.0.number)) entries))
     (rest : new ≡ record old { items = new.items }) where
   pub items_raw : old.items ≡ raw_slots (raw (g.spelling class) node.1)
   items_raw = ap (λ (s : Slots). s.items) read.is ∙ raw_items (g.spelling class) node.1

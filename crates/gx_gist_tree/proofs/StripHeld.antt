@@ -26,7 +26,7 @@ slots_stripped gone (None ∷ slots) = slots_stripped gone slots
 slots_stripped {K} gone (Some e ∷ slots) =
     let rest = slots_stripped gone slots in
     elim (gone e) as (λ b. filter_map (λ (slot : Option (Entry K)). slot) ((if b then None else Some e) ∷ map (kept_slot gone) slots)
-        ≡ (if not b then e ∷ filter (λ x. not (gone x)) (filter_map (λ slot. slot) slots) else filter (λ x. not (gone x)) (filter_map (λ slot. slot) slots)))
+    ≡ (if not b then e ∷ filter (λ x. not (gone x)) (filter_map (λ slot. slot) slots) else filter (λ x. not (gone x)) (filter_map (λ slot. slot) slots)))
     [ true ↦ rest | false ↦ ap (λ (l : List (Entry K)). e ∷ l) rest ]
 
 entries_items : {K : Type 0} (gone : Entry K → Bool) (level : ℕ) → ((node : Node K level) → entries level (stripped gone level node) ≡ filter (λ e. not (gone e)) (entries level node)) → (items : List (K × Node K level))
@@ -71,7 +71,7 @@ two_items : (K : Type 0) (gone : Entry K → Bool) (level : ℕ) → ((node : No
 two_items K gone level step [] all = All-nil (λ (item : K × Node K level). HasTwoItems K level item.1)
 two_items K gone level step (item ∷ items) all =
     All-cons (λ (i : K × Node K level). HasTwoItems K level i.1) (item.0, stripped gone level item.1) (map (λ (i : K × Node K level). (i.0, stripped gone level i.1)) items)
-      (step item.1 (All-head (λ (i : K × Node K level). HasTwoItems K level i.1) item items all)) (two_items K gone level step items (All-tail (λ (i : K × Node K level). HasTwoItems K level i.1) item items all))
+    (step item.1 (All-head (λ (i : K × Node K level). HasTwoItems K level i.1) item items all)) (two_items K gone level step items (All-tail (λ (i : K × Node K level). HasTwoItems K level i.1) item items all))
 
 length_mapped : {X Y : Type 0} (f : X → Y) (xs : List X) → length (map f xs) ≡ length xs
 length_mapped f [] = refl
@@ -93,11 +93,12 @@ module _ {V K : Type 0} (valid : V → Type 0) (valid_key : K → Type 0) (leaf 
   tree_items level step [] all = All-nil (Kept level)
   tree_items level step (item ∷ items) all =
       let first = All-head (Kept level) item items all in
-      All-cons (Kept level) (item.0, stripped gone level item.1) (map (λ (i : K × Node K level). (i.0, stripped gone level i.1)) items)
-        (first.0,
+      All-cons (Kept level) (item.0, stripped gone level item.1) (map (λ (i : K × Node K level). (i.0, stripped gone level i.1)) items) (
+        first.0,
         subst (λ (l : List (Entry K)). All (λ e. over item.0 e.1) l) (sym (entries_stripped gone level item.1)) (all_filter (λ (e : Entry K). over item.0 e.1) (λ e. not (gone e)) (entries level item.1) first.1),
-        step item.1 first.2)
-        (tree_items level step items (All-tail (Kept level) item items all))
+        step item.1 first.2,
+      )
+      (tree_items level step items (All-tail (Kept level) item items all))
 
   tree_stripped : (level : ℕ) (node : Node K level) → IsTree valid valid_key leaf over level node → IsTree valid valid_key leaf over level (stripped gone level node)
   tree_stripped zero node tree =

@@ -96,11 +96,12 @@ module _ {C V Q K : Type 0} (g : Ghosts C V Q K) (class : C) (old : PageMap) (co
       stay_all : (items : List (K × Node K below)) → AllByRecursion (λ n. new n ≡ now n) (flat_map (below_pages K below) items)
           → AllByRecursion (λ item. Stands now (g.spelling class) below (stripped gone below item.1)) items → AllByRecursion (λ item. Stands new (g.spelling class) below (stripped gone below item.1)) items
       stay_all [] same all = tt
-      stay_all (item ∷ items) same all =
-          (stands_same now new (g.spelling class) below (stripped gone below item.1)
-          (subst (λ (l : List ℕ). AllByRecursion (λ (n : ℕ). new n ≡ now n) l) (sym (pages_stripped gone below item.1))
-          (feet.all_left (λ (n : ℕ). new n ≡ now n) (pages_of K below item.1) (flat_map (below_pages K below) items) same)) all.0,
-          stay_all items (feet.all_right (λ (n : ℕ). new n ≡ now n) (pages_of K below item.1) (flat_map (below_pages K below) items) same) all.1)
+      stay_all (item ∷ items) same all = (
+        stands_same now new (g.spelling class) below (stripped gone below item.1)
+            (subst (λ (l : List ℕ). AllByRecursion (λ (n : ℕ). new n ≡ now n) l) (sym (pages_stripped gone below item.1))
+            (feet.all_left (λ (n : ℕ). new n ≡ now n) (pages_of K below item.1) (flat_map (below_pages K below) items) same)) all.0,
+        stay_all items (feet.all_right (λ (n : ℕ). new n ≡ now n) (pages_of K below item.1) (flat_map (below_pages K below) items) same) all.1,
+      )
 
       pub done_more : AllByRecursion (λ item. Stands now (g.spelling class) below (stripped gone below item.1)) (take k node.1) → Stands new (g.spelling class) below (stripped gone below a.item.1)
           → AllByRecursion (λ item. Stands new (g.spelling class) below (stripped gone below item.1)) (take (k + 1) node.1)
@@ -116,7 +117,7 @@ module _ {C V Q K : Type 0} (g : Ghosts C V Q K) (class : C) (old : PageMap) (co
     all_items [] all = All-nil (λ (item : K × Node K below). Stands now (g.spelling class) below item.1)
     all_items (item ∷ items) all =
         All-cons (λ (i : K × Node K below). Stands now (g.spelling class) below i.1) (item.0, stripped gone below item.1)
-          (map (λ (i : K × Node K below). (i.0, stripped gone below i.1)) items) all.0 (all_items items all.1)
+        (map (λ (i : K × Node K below). (i.0, stripped gone below i.1)) items) all.0 (all_items items all.1)
 
     slots_same : slots_of (g.spelling class) (suc below) node ≡ slots_of (g.spelling class) (suc below) (stripped gone (suc below) node)
     slots_same = ap (λ (l : List (Option (List ℕ))). record { kind = 4; level = suc below; next = 0; items = l }) (sym (items_same (g.spelling class) gone below node.1))
@@ -124,10 +125,13 @@ module _ {C V Q K : Type 0} (g : Ghosts C V Q K) (class : C) (old : PageMap) (co
     pub all_done : AllByRecursion (λ item. Stands now (g.spelling class) below (stripped gone below item.1)) node.1
         → Stands now (g.spelling class) (suc below) (stripped gone (suc below) node) × ChangesOnly old now (pages_of K (suc below) node)
     all_done all = (
-      (record {
-        some = read.sound.0.some;
-        is = only node.0 read.sound.0.some apart.0 ∙ read.sound.0.is ∙ ap (λ (s : Slots). Some (spelling s)) slots_same;
-        fits = subst (λ (s : Slots). Fits s) slots_same read.sound.0.fits;
-      }, all_items node.1 all),
+      (
+        record {
+          some = read.sound.0.some;
+          is = only node.0 read.sound.0.some apart.0 ∙ read.sound.0.is ∙ ap (λ (s : Slots). Some (spelling s)) slots_same;
+          fits = subst (λ (s : Slots). Fits s) slots_same read.sound.0.fits;
+        },
+        all_items node.1 all,
+      ),
       λ n nonzero outside. only n nonzero outside.1,
     )

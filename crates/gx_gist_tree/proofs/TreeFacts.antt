@@ -40,7 +40,7 @@ module _ {V K : Type 0} (valid : V → Type 0) (valid_key : K → Type 0) (leaf_
   leaves_below level step [] all = All-nil (λ (e : Entry K). IsLeafKey valid leaf_of e.1)
   leaves_below level step (item ∷ items) all =
       All-append (λ (e : Entry K). IsLeafKey valid leaf_of e.1) (entries level item.1) (flat_map (λ (i : K × Node K level). entries level i.1) items)
-        (step item.1 (All-head (Sound level) item items all).2) (leaves_below level step items (All-tail (Sound level) item items all))
+      (step item.1 (All-head (Sound level) item items all).2) (leaves_below level step items (All-tail (Sound level) item items all))
 
   pub leaves_are : (level : ℕ) (node : Node K level) → IsTree valid valid_key leaf_of over level node → All (λ e. IsLeafKey valid leaf_of e.1) (entries level node)
   leaves_are zero node tree = tree

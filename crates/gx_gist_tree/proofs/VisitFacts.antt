@@ -94,8 +94,7 @@ module _ {C V Q K : Type 0} (g : Ghosts C V Q K) (class : C) (pages : PageMap) (
         let apart : IsApart ((page ∷ done) ++ (here ++ rest)) = subst (λ (l : List ℕ). IsApart l) cut fresh.1 in
         let new : AllByRecursion (λ n. IsOutside n seen) ((page ∷ done) ++ (here ++ rest)) = subst (λ (l : List ℕ). AllByRecursion (λ (n : ℕ). IsOutside n seen) l) cut fresh.0 in
         let each = feet.all_left (λ (n : ℕ). IsOutside n (page ∷ done)) here rest (feet.apart_each (page ∷ done) (here ++ rest) apart) in
-        let unseen = feet.all_left (λ (n : ℕ). IsOutside n seen) here rest (feet.all_right (λ (n : ℕ). IsOutside n seen) (page ∷ done) (here ++ rest) new) in
-        (
+        let unseen = feet.all_left (λ (n : ℕ). IsOutside n seen) here rest (feet.all_right (λ (n : ℕ). IsOutside n seen) (page ∷ done) (here ++ rest) new) in (
           feet.all_weaker (λ (n : ℕ). IsOutside n seen × IsOutside n (page ∷ done)) (λ (n : ℕ). IsOutside n now) here (λ n has. step n has.0 has.1.0 has.1.1)
               (both (λ (n : ℕ). IsOutside n seen) (λ (n : ℕ). IsOutside n (page ∷ done)) here unseen each),
           feet.apart_left here rest (feet.apart_right (page ∷ done) (here ++ rest) apart),

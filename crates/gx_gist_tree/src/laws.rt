@@ -1,9 +1,15 @@
 //! What trees are.
 
-ghost use Rattle.std.specs.Prelude.{◌≡◌, ℕ, filter};
+ghost use Rattle.std.specs.Prelude.{◌≡◌, ℕ, ◌<◌, ◌≤◌, List, ◌++◌, filter};
+ghost use Rattle.std.specs.List.{AllByRecursion};
+ghost use Rattle.gx_words.specs.PageMap.{PageMap};
+ghost use Rattle.gx_pages.specs.Footprints.{KeepsPages};
+ghost use Rattle.gx_pages.specs.Frees.{IsApart};
 ghost use Rattle.gx_gist_tree.specs.Trees.{Node, entries, found, passes, IsTree};
+ghost use Rattle.gx_gist_tree.specs.OnPages.{Whole, Holds, HoldsBeside, footprint};
 
 use gx_gist::GistClass;
+use gx_pages::Pages;
 
 /// A search that goes only where a key doesn't rule the query out finds just what passes.
 pub fn search_is_exact<C: GistClass>(class: &C, query: &C::Query)
@@ -12,4 +18,18 @@ pub fn search_is_exact<C: GistClass>(class: &C, query: &C::Query)
     ensures { (level : ℕ) (node : Node C.Key level) → IsTree (C.valid_value class.now) (C.valid_key class.now) (C.leaf_of class.now) (C.over class.now) level node
         → found (λ k. C.leaf_test class.now k query.now) (λ k. C.inner_test class.now k query.now) level node
         ≡ filter (λ e. passes (C.leaf_test class.now e.1 query.now)) (entries level node) }
+{}
+
+/// A tree stays where its pages are as they were.
+pub fn same_tree<C: GistClass>(class: &C)
+    ensures { (old new : PageMap) (count later root : ℕ) (tree : Whole C.Key) → AllByRecursion (λ page. new page ≡ old page) (footprint tree) → count ≤ later
+        → Holds C.GistClass class.now old count root tree → Holds C.GistClass class.now new later root tree }
+{}
+
+/// A tree stays where another structure changes, or several that are seen as one, whose pages lie apart from those of the
+/// tree.
+pub fn tree_stays<P: Pages, C: GistClass>(_pages: &P, class: &C)
+    ensures { (old new : P) (root : ℕ) (tree : Whole C.Key) (before free after rest : List ℕ) → HoldsBeside P.Pages C.GistClass class.now old root tree free
+        → KeepsPages P.Pages old new before free after rest → IsApart (before ++ free ++ footprint tree) → AllByRecursion (λ page. page < P.count old) before
+        → HoldsBeside P.Pages C.GistClass class.now new root tree rest }
 {}

@@ -2,6 +2,7 @@
 //! (PostgreSQL 16, chapter 68, "GiST Indexes").
 #![tactic(auto)]
 
+mod dropping;
 mod found;
 mod items;
 mod laws;
@@ -11,5 +12,5 @@ mod search;
 mod seen;
 mod tree;
 
-pub use laws::search_is_exact;
+pub use laws::{same_tree, search_is_exact, tree_stays};
 pub use tree::Tree;

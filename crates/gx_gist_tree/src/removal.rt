@@ -223,12 +223,7 @@ impl<C: OnBytes> Tree<C> {
         Ok(())
     }
 
-    fn strip<P: Pages>(
-        &self,
-        alloc: Global,
-        pages: &mut P,
-        rows: &Bitmap,
-    ) -> Result<(), PageError>
+    fn strip<P: Pages>(&self, alloc: Global, pages: &mut P, rows: &Bitmap) -> Result<(), PageError>
         requires class { C.valid self.now.class }
         ensures removed { OnOk result (P.tells → (before : Whole C.Key) (free : List ℕ) → HoldsBeside P.Pages C.GistClass self.now.class pages.old self.now.root before free
             → (later : Whole C.Key) × HoldsBeside P.Pages C.GistClass self.now.class pages.new self.now.root later free
@@ -244,7 +239,15 @@ impl<C: OnBytes> Tree<C> {
         let mut root = fetch_slots(pages, self.root, GIST)?;
         let level = root_level(&root, self.root)?;
         let mut seen = Seen::new(alloc);
-        strip_page(&self.class, pages, &mut root, self.root, level, rows, &mut seen)?;
+        strip_page(
+            &self.class,
+            pages,
+            &mut root,
+            self.root,
+            level,
+            rows,
+            &mut seen,
+        )?;
         Ok(())
     }
 }

@@ -109,7 +109,16 @@ impl<C: OnBytes> Tree<C> {
         let root = fetch_slots(pages, self.root, GIST)?;
         let level = root_level(&root, self.root)?;
         let mut so_far = Found::new(alloc);
-        visit_page(alloc, &self.class, pages, &root, self.root, level, query, &mut so_far)?;
+        visit_page(
+            alloc,
+            &self.class,
+            pages,
+            &root,
+            self.root,
+            level,
+            query,
+            &mut so_far,
+        )?;
         search_is_exact(&self.class, query);
         let Found { rows, seen: _seen } = so_far;
         let Some(bitmap) = Bitmap::of(rows) else {

@@ -79,19 +79,19 @@ strip_items-loop-slot-preserved g t c =
     record {
       done = λ tells node read apart.
           let a = place g.C.GistClass class (g.P.Pages.map old) (g.P.Pages.count old) c.args.below node c.args.slots.now c.args.page read slot (omega (arith, test, c.count-slot-end.ensures)) in
-    let was = c.loop-slot.invariant.done tells node read apart in
-    let is = below_same g.C.GistClass class (g.P.Pages.map c.loop-slot.pages) (g.P.Pages.count old) (g.P.Pages.map c.loop-slot.pages) (g.P.Pages.count c.loop-slot.pages) refl c.loop-slot.invariant.count c.args.below
-    a.item.0 a.item.1 c.args.slots.now slot (item_now g.C.GistClass class (g.P.Pages.map old) (g.P.Pages.count old) c.args.below node c.args.slots.now c.args.page read apart slot a (g.P.Pages.map c.loop-slot.pages) was.1) in
-    let more = c.in_ok-strip_slot.ensures.stripped tells a.item.0 a.item.1 is (apart_here g.C.GistClass class (g.P.Pages.map old) (g.P.Pages.count old) c.args.below node c.args.slots.now c.args.page read apart slot a) in (
+          let was = c.loop-slot.invariant.done tells node read apart in
+          let is = below_same g.C.GistClass class (g.P.Pages.map c.loop-slot.pages) (g.P.Pages.count old) (g.P.Pages.map c.loop-slot.pages) (g.P.Pages.count c.loop-slot.pages) refl c.loop-slot.invariant.count c.args.below
+          a.item.0 a.item.1 c.args.slots.now slot (item_now g.C.GistClass class (g.P.Pages.map old) (g.P.Pages.count old) c.args.below node c.args.slots.now c.args.page read apart slot a (g.P.Pages.map c.loop-slot.pages) was.1) in
+          let more = c.in_ok-strip_slot.ensures.stripped tells a.item.0 a.item.1 is (apart_here g.C.GistClass class (g.P.Pages.map old) (g.P.Pages.count old) c.args.below node c.args.slots.now c.args.page read apart slot a) in (
             done_more g.C.GistClass class (g.P.Pages.map old) (g.P.Pages.count old) c.args.below node c.args.slots.now c.args.page read apart slot a (λ (e : Entry g.row.C-Key.Denot). is_in c.args.rows.now e.0.number) (g.P.Pages.map c.loop-slot.pages) (g.P.Pages.map c.strip_slot.new.pages) more.1 was.0 more.0,
             only_more g.C.GistClass class (g.P.Pages.map old) (g.P.Pages.count old) c.args.below node c.args.slots.now c.args.page read apart slot a (g.P.Pages.map c.loop-slot.pages) (g.P.Pages.map c.strip_slot.new.pages) was.1 more.1,
           );
       seen = λ tells node read apart n out differ outs.
           let a = place g.C.GistClass class (g.P.Pages.map old) (g.P.Pages.count old) c.args.below node c.args.slots.now c.args.page read slot (omega (arith, test, c.count-slot-end.ensures)) in
-    let was = c.loop-slot.invariant.done tells node read apart in
-    let is = below_same g.C.GistClass class (g.P.Pages.map c.loop-slot.pages) (g.P.Pages.count old) (g.P.Pages.map c.loop-slot.pages) (g.P.Pages.count c.loop-slot.pages) refl c.loop-slot.invariant.count c.args.below
-    a.item.0 a.item.1 c.args.slots.now slot (item_now g.C.GistClass class (g.P.Pages.map old) (g.P.Pages.count old) c.args.below node c.args.slots.now c.args.page read apart slot a (g.P.Pages.map c.loop-slot.pages) was.1) in
-    let done = flat_map (below_pages g.row.C-Key.Denot c.args.below) (take slot node.1) in
+          let was = c.loop-slot.invariant.done tells node read apart in
+          let is = below_same g.C.GistClass class (g.P.Pages.map c.loop-slot.pages) (g.P.Pages.count old) (g.P.Pages.map c.loop-slot.pages) (g.P.Pages.count c.loop-slot.pages) refl c.loop-slot.invariant.count c.args.below
+          a.item.0 a.item.1 c.args.slots.now slot (item_now g.C.GistClass class (g.P.Pages.map old) (g.P.Pages.count old) c.args.below node c.args.slots.now c.args.page read apart slot a (g.P.Pages.map c.loop-slot.pages) was.1) in
+          let done = flat_map (below_pages g.row.C-Key.Denot c.args.below) (take slot node.1) in
           let here = below_pages g.row.C-Key.Denot c.args.below a.item in
           let parts : IsOutside n (done ++ here) = subst (λ (l : List ℕ). IsOutside n l) (flat_more (below_pages g.row.C-Key.Denot c.args.below) node.1 slot a) outs in
           c.in_ok-strip_slot.ensures.seen tells a.item.0 a.item.1 is (apart_here g.C.GistClass class (g.P.Pages.map old) (g.P.Pages.count old) c.args.below node c.args.slots.now c.args.page read apart slot a)

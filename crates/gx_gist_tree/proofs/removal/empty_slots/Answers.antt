@@ -32,7 +32,7 @@ loop-slot-preserved c =
     let slot = c.loop-slot.slot in
     let small = c.loop-slot-test.true in
     let place = λ (entries : List (Option (Entry (List ℕ)))) (is : c.args.slots.now.items ≡ raw_slots entries).
-        at entries slot (omega (arith, small, c.count-slot-end.ensures, ap (λ (l : List (Option (List ℕ))). length l) is ∙ length_mapped _ entries)) in
+    at entries slot (omega (arith, small, c.count-slot-end.ensures, ap (λ (l : List (Option (List ℕ))). length l) is ∙ length_mapped _ entries)) in
     elim c.if-gone.branch [
       | then-gone w ↦ (
           let made : c.if-gone.slots.items ≡ slice_set c.loop-slot.slots.items slot None = (λ i. (w.slots-is i).items) ∙ (λ i. (w.remove.ensures i).items) in

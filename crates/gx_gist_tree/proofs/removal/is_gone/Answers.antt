@@ -8,11 +8,13 @@ use Rattle.gx_gist_tree.proofs.removal.is_gone.Goals as goal
 pub returns-in_default-leaf_parts-clause-cause : goal.returns-in_default-leaf_parts-clause-cause
 returns-in_default-leaf_parts-clause-cause c = (
   c.no_item.ensures,
-  ((λ none. let at = c.in-Some.ensures in cc),
-  λ row key is.
-      let there : c.in-Some.item.now ≡ leaf_item (λ (b : List ℕ). b) (row, key) = (let at = c.in-Some.ensures in cc) in
-      let short = c.in_default-leaf_parts.ensures.none in
-      omega (arith, short, leaf_long (λ (b : List ℕ). b) (row, key), ap (λ (l : List ℕ). length l) there)),
+  (
+    (λ none. let at = c.in-Some.ensures in cc),
+    λ row key is.
+        let there : c.in-Some.item.now ≡ leaf_item (λ (b : List ℕ). b) (row, key) = (let at = c.in-Some.ensures in cc) in
+        let short = c.in_default-leaf_parts.ensures.none in
+        omega (arith, short, leaf_long (λ (b : List ℕ). b) (row, key), ap (λ (l : List ℕ). length l) there),
+  ),
 )
 
 pub returns-clause-some : goal.returns-clause-some

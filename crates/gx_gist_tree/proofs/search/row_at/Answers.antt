@@ -8,26 +8,30 @@ use Rattle.gx_gist_tree.proofs.search.row_at.Goals as goal
 pub returns-in_default-leaf_parts-clause-cause : goal.returns-in_default-leaf_parts-clause-cause
 returns-in_default-leaf_parts-clause-cause g c = inr (
   c.no_item.ensures,
-  ((λ none. let at = c.in-Some.ensures in cc),
-  λ e valid is.
-      let bytes = g.C.GistClass.spelling c.args.class.now in
-      let there : c.in-Some.item.now ≡ leaf_item bytes e = (let at = c.in-Some.ensures in cc) in
-      let short = c.in_default-leaf_parts.ensures.none in
-      omega (arith, short, leaf_long bytes e, ap (λ (l : List ℕ). length l) there)),
+  (
+    (λ none. let at = c.in-Some.ensures in cc),
+    λ e valid is.
+        let bytes = g.C.GistClass.spelling c.args.class.now in
+        let there : c.in-Some.item.now ≡ leaf_item bytes e = (let at = c.in-Some.ensures in cc) in
+        let short = c.in_default-leaf_parts.ensures.none in
+        omega (arith, short, leaf_long bytes e, ap (λ (l : List ℕ). length l) there),
+  ),
 )
 
 pub returns-in_default-tested-clause-cause : goal.returns-in_default-tested-clause-cause
 returns-in_default-tested-clause-cause g c = inr (
   c.no_item-in_default-tested.ensures,
-  ((λ none. let at = c.in-Some.ensures in cc),
-  λ e valid is.
-      let class = c.args.class.now in
-      let bytes = g.C.GistClass.spelling class in
-      let there : c.in-Some.item.now ≡ leaf_item bytes e = (let at = c.in-Some.ensures in cc) in
-      c.in_default-tested.not-Some (g.C.GistClass.leaf_test class e.1 c.args.query.now)
-      (answered (g.C.GistClass.valid_key class) bytes (λ a b va vb. g.met.C.GistClass.one_spelling class a b c.requires.class va vb)
-      (λ k. g.C.GistClass.leaf_test class k c.args.query.now) c.in-Some-leaf_parts.key.now c.in-Ok.tested c.in-Ok.ensures e.1 valid
-      (c.in-Some-leaf_parts.ensures.key ∙ ap (λ (l : List ℕ). drop 18 l) there ∙ leaf_key bytes e))),
+  (
+    (λ none. let at = c.in-Some.ensures in cc),
+    λ e valid is.
+        let class = c.args.class.now in
+        let bytes = g.C.GistClass.spelling class in
+        let there : c.in-Some.item.now ≡ leaf_item bytes e = (let at = c.in-Some.ensures in cc) in
+        c.in_default-tested.not-Some (g.C.GistClass.leaf_test class e.1 c.args.query.now)
+        (answered (g.C.GistClass.valid_key class) bytes (λ a b va vb. g.met.C.GistClass.one_spelling class a b c.requires.class va vb)
+        (λ k. g.C.GistClass.leaf_test class k c.args.query.now) c.in-Some-leaf_parts.key.now c.in-Ok.tested c.in-Ok.ensures e.1 valid
+        (c.in-Some-leaf_parts.ensures.key ∙ ap (λ (l : List ℕ). drop 18 l) there ∙ leaf_key bytes e)),
+  ),
 )
 
 pub returns-then-goes_on-clause-some : goal.returns-then-goes_on-clause-some

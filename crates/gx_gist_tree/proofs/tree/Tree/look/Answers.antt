@@ -107,18 +107,18 @@ returns-in_default-clause-cause g c =
     rw is (
       (λ same. omega (arith, same)),
       λ tells held holds.
-    let one = c.in_ok-root.ensures.one tells in
-    let read = root_read g.C.GistClass class leaf_valid (g.P.Pages.map old) (g.P.Pages.count old) root held holds c.in_ok-root.root one in
-    let flat = root_flat g.C.GistClass class leaf_valid (g.P.Pages.map old) (g.P.Pages.count old) root held holds c.in_ok-root.root one in
-    let at_level : c.in_ok-level.level ≡ held.0 = c.in_ok-level.ensures.level.0 ∙ flat in
-    let there = read_same g.C.GistClass class (g.P.Pages.map old) (g.P.Pages.count old) (g.P.Pages.map c.fetch_slots.new.pages) (g.P.Pages.count c.fetch_slots.new.pages) c.in_ok-root.ensures.map c.in_ok-root.ensures.count
-    held.0 held.1 c.in_ok-root.root root read in
-    let found_all = subst (λ (n : ℕ). (node : Node g.row.C-Key.Denot n) → IsRead g.C.GistClass class (g.P.Pages.map c.fetch_slots.new.pages) (g.P.Pages.count c.fetch_slots.new.pages) n node c.in_ok-root.root root
-    → c.visit_page.new.so_far.rows.items ≡ c.new-so_far.result.rows.items ++ map (λ e. e.0) (found (λ (k : g.row.C-Key.Denot). g.C.GistClass.leaf_test class k c.args.query.now) (λ (k : g.row.C-Key.Denot). g.C.GistClass.inner_test class k c.args.query.now) n node)) at_level (c.in_ok-visit_page.ensures.found tells) held.1 there in
-    let rows : c.visit_page.new.so_far.rows.items ≡ map (λ (e : Entry g.row.C-Key.Denot). e.0) (filter (λ e. passes ((λ (k : g.row.C-Key.Denot). g.C.GistClass.leaf_test class k c.args.query.now) e.1)) (entries_of held)) =
-    found_all ∙ ap (λ (l : List RowRef). l ++ map (λ (e : Entry g.row.C-Key.Denot). e.0) (found (λ (k : g.row.C-Key.Denot). g.C.GistClass.leaf_test class k c.args.query.now) (λ (k : g.row.C-Key.Denot). g.C.GistClass.inner_test class k c.args.query.now) held.0 held.1)) c.new-so_far.ensures.rows
-    ∙ ap (λ (l : List (Entry g.row.C-Key.Denot)). map (λ (e : Entry g.row.C-Key.Denot). e.0) l) (c.search_is_exact.ensures held.0 held.1 holds.keys) in
-    twice_none (λ e. passes ((λ (k : g.row.C-Key.Denot). g.C.GistClass.leaf_test class k c.args.query.now) e.1)) (entries_of held) holds.once (subst (λ (l : List RowRef). HasTwice l) rows c.in_default.ensures.none),
+          let one = c.in_ok-root.ensures.one tells in
+          let read = root_read g.C.GistClass class leaf_valid (g.P.Pages.map old) (g.P.Pages.count old) root held holds c.in_ok-root.root one in
+          let flat = root_flat g.C.GistClass class leaf_valid (g.P.Pages.map old) (g.P.Pages.count old) root held holds c.in_ok-root.root one in
+          let at_level : c.in_ok-level.level ≡ held.0 = c.in_ok-level.ensures.level.0 ∙ flat in
+          let there = read_same g.C.GistClass class (g.P.Pages.map old) (g.P.Pages.count old) (g.P.Pages.map c.fetch_slots.new.pages) (g.P.Pages.count c.fetch_slots.new.pages) c.in_ok-root.ensures.map c.in_ok-root.ensures.count
+          held.0 held.1 c.in_ok-root.root root read in
+          let found_all = subst (λ (n : ℕ). (node : Node g.row.C-Key.Denot n) → IsRead g.C.GistClass class (g.P.Pages.map c.fetch_slots.new.pages) (g.P.Pages.count c.fetch_slots.new.pages) n node c.in_ok-root.root root
+          → c.visit_page.new.so_far.rows.items ≡ c.new-so_far.result.rows.items ++ map (λ e. e.0) (found (λ (k : g.row.C-Key.Denot). g.C.GistClass.leaf_test class k c.args.query.now) (λ (k : g.row.C-Key.Denot). g.C.GistClass.inner_test class k c.args.query.now) n node)) at_level (c.in_ok-visit_page.ensures.found tells) held.1 there in
+          let rows : c.visit_page.new.so_far.rows.items ≡ map (λ (e : Entry g.row.C-Key.Denot). e.0) (filter (λ e. passes ((λ (k : g.row.C-Key.Denot). g.C.GistClass.leaf_test class k c.args.query.now) e.1)) (entries_of held)) =
+          found_all ∙ ap (λ (l : List RowRef). l ++ map (λ (e : Entry g.row.C-Key.Denot). e.0) (found (λ (k : g.row.C-Key.Denot). g.C.GistClass.leaf_test class k c.args.query.now) (λ (k : g.row.C-Key.Denot). g.C.GistClass.inner_test class k c.args.query.now) held.0 held.1)) c.new-so_far.ensures.rows
+          ∙ ap (λ (l : List (Entry g.row.C-Key.Denot)). map (λ (e : Entry g.row.C-Key.Denot). e.0) l) (c.search_is_exact.ensures held.0 held.1 holds.keys) in
+          twice_none (λ e. passes ((λ (k : g.row.C-Key.Denot). g.C.GistClass.leaf_test class k c.args.query.now) e.1)) (entries_of held) holds.once (subst (λ (l : List RowRef). HasTwice l) rows c.in_default.ensures.none),
     )
 
 pub returns-in_default-clause-visits : goal.returns-in_default-clause-visits
