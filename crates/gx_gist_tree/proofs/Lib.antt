@@ -3,6 +3,7 @@ mod HeldFacts
 mod InsertFacts
 mod ItemFacts
 mod MadeFacts
+mod OneTree
 mod Places
 mod SeenFacts
 mod StayFacts

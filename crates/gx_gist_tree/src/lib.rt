@@ -12,5 +12,5 @@ mod search;
 mod seen;
 mod tree;
 
-pub use laws::{same_tree, search_is_exact, tree_stays};
+pub use laws::{insert_is_sound, one_tree, same_tree, search_is_exact, tree_stays};
 pub use tree::Tree;
