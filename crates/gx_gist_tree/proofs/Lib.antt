@@ -1,0 +1,15 @@
+mod DropWalk
+mod HeldFacts
+mod InsertFacts
+mod ItemFacts
+mod MadeFacts
+mod OneTree
+mod Places
+mod SeenFacts
+mod StayFacts
+mod StayHeld
+mod StripFacts
+mod StripHeld
+mod StripWalk
+mod TreeFacts
+mod VisitFacts
