@@ -1,8 +1,8 @@
-use Rattle.std.proofs.Common.{◌≡◌, ◌∙◌, sym, ap, subst, ℕ, List, length, slice_index, true, false, arith}
-use Rattle.gx_slot.specs.Slots.{read, spelling, IsSpelled}
+use Rattle.std.proofs.Common.{◌∙◌, sym, ap, subst, ℕ, List, length, slice_index, true, false, arith, ◌≡◌}
+use Rattle.gx_slot.specs.Slots.{read, IsSpelled}
 use Rattle.gx_slot.proofs.SlotFacts.{is_spelled}
 use Rattle.gx_slot.proofs.ReadFacts as facts
-use Rattle.gx_slot.proofs.slot_page.SlotPage.read.Goals as goal
+use Rattle.gx_slot.proofs.checking.check_page.Goals as goal
 
 pub returns-then-found-expected-clause-err : goal.returns-then-found-expected-clause-err
 returns-then-found-expected-clause-err c =
@@ -21,9 +21,7 @@ returns-then-not-is_spelled-clause-err c = λ has.
 
 pub returns-clause-ok : goal.returns-clause-ok
 returns-clause-ok c =
-    let bytes = c.bytes-bytes.result.now in
-    let copy = c.copy_from_slice.new.self in
-    let same : copy ≡ bytes = c.copy_from_slice.ensures.after in (
-      sym c.bytes-bytes.ensures.value ∙ (c.is_spelled.ensures.0 c.if-not-is_spelled.false).is ∙ ap (λ (b : List ℕ). spelling (read b)) (sym same),
-      facts.kind_read copy ∙ ap (λ (b : List ℕ). slice_index b 0) same ∙ sym c.from-found.ensures ∙ c.if-found-expected.false ∙ c.from-expected.ensures,
+    let same = c.bytes-bytes.ensures.value in (
+      let P : List ℕ → Type 0 = λ b. IsSpelled b in subst P same (c.is_spelled.ensures.0 c.if-not-is_spelled.false),
+      facts.kind_read c.args.page.now ∙ ap (λ (b : List ℕ). slice_index b 0) (sym same) ∙ sym c.from-found.ensures ∙ c.if-found-expected.false ∙ c.from-expected.ensures,
     )
