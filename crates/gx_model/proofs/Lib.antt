@@ -1,0 +1,10 @@
+mod Tables
+mod Stepping
+mod Turning
+mod Literals
+mod OneTurn
+mod Lists
+mod NewRows
+mod StaysValid
+mod TurnsValid
+mod OneCost
