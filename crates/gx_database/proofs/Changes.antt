@@ -71,10 +71,11 @@ untouched : {P : Type 0} (g : Ghosts P) (old new : P) (before free after rest al
     → AllByRecursion (λ page. g.map new page ≡ g.map old page) foot
 untouched g old new before free after rest all foot keeps perm within =
     all_times (λ page. g.map new page ≡ g.map old page) foot (λ n here.
-        keeps.others n (nonzero n here) (stands_below (0 ∷ all) (g.count old) perm n (let w = within n in omega arith)) (outside n here))
+    keeps.others n (nonzero n here) (stands_below (0 ∷ all) (g.count old) perm n (let w = within n in omega arith)) (outside n here))
   where
     nonzero : (n : ℕ) → 1 ≤ times n foot → n ≢ 0
     nonzero n here = none_hit n 0 (let w = within n in let o = stands_once (0 ∷ all) (g.count old) perm n in omega arith)
+
     outside : (n : ℕ) → 1 ≤ times n foot → IsOutside n (before ++ free)
     outside n here = none_outside n (before ++ free) (let w = within n in let o = stands_once (0 ∷ all) (g.count old) perm n in omega arith)
 
@@ -85,7 +86,7 @@ later_pages count later n more =
     let z : 0 + count ≡ count = omega arith in
     let j : range_with_len 0 count ++ range_with_len (0 + count) (later - count) ≡ range_with_len 0 (count + (later - count)) = range_join 0 count (later - count) in
     let k : range_with_len 0 count ++ grown count later ≡ range_with_len 0 later = (let P : ℕ → Type 0 = λ m. range_with_len 0 count ++ range_with_len m (later - count) ≡ range_with_len 0 later in
-        subst P z (j ∙ ap (λ (m : ℕ). range_with_len 0 m) e)) in
+    subst P z (j ∙ ap (λ (m : ℕ). range_with_len 0 m) e)) in
     sym (ap (λ (xs : List ℕ). times n xs) k) ∙ times-append n (range_with_len 0 count) (grown count later)
 
 -- the heaps beside those that change
@@ -133,14 +134,14 @@ heaps_changed g old new tables feet front before after back free rest parts keep
     record {
       catalog = catalog_stays (g.map old) (g.map new) (g.count old) (g.count new) tables feet keeps.grows
           (untouched g old new (feet_of before) free (feet_of after) rest all feet keeps parts.once (λ n.
-              let a = all_pages n feet front before back free in let b = times-append n (feet_of before) free in omega arith)) parts.catalog;
+          let a = all_pages n feet front before back free in let b = times-append n (feet_of before) free in omega arith)) parts.catalog;
       stored = all_join Q' (front ++ after) back
           (all_join Q' front after
-              (heaps_stay g old new (feet_of before) free (feet_of after) rest all front keeps parts.once (λ n.
-                  let a = all_pages n feet front before back free in let b = times-append n (feet_of before) free in omega arith) in_front)
-              stored)
+          (heaps_stay g old new (feet_of before) free (feet_of after) rest all front keeps parts.once (λ n.
+          let a = all_pages n feet front before back free in let b = times-append n (feet_of before) free in omega arith) in_front)
+          stored)
           (heaps_stay g old new (feet_of before) free (feet_of after) rest all back keeps parts.once (λ n.
-              let a = all_pages n feet front before back free in let b = times-append n (feet_of before) free in omega arith) in_back);
+          let a = all_pages n feet front before back free in let b = times-append n (feet_of before) free in omega arith) in_back);
       frees = keeps.frees;
       once = same_times (0 ∷ feet ++ feet_of (front ++ after ++ back) ++ rest) (range_with_len 0 (g.count new)) (λ n.
           let a = all_pages n feet front before back free in

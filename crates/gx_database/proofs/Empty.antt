@@ -26,10 +26,13 @@ first_link = record {
   where
     lit_kind : 3 < 2 ^ 8
     lit_kind = omega arith
+
     lit_level : 0 < 2 ^ 8
     lit_level = omega arith
+
     lit_next : 0 < 2 ^ 64
     lit_next = omega arith
+
     lit_room : taken [] ≤ 8176
     lit_room = omega arith
 

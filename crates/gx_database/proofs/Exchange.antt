@@ -139,19 +139,19 @@ with_table_at db name t new infos stored p distinct named =
     let f : Table → Table = changed name new in
     let d : AreDistinct (map (λ u. u.name) (p.tables_before ++ t ∷ p.tables_behind)) = subst (λ (ts : List Table). AreDistinct (map (λ u. u.name) ts)) p.tables distinct in
     let none : list_any (bytes_eq name) (map (λ u. u.name) p.tables_behind) ≡ false =
-        subst (λ (n : List ℕ). list_any (bytes_eq n) (map (λ u. u.name) p.tables_behind) ≡ false) named (distinct_behind p.tables_before t p.tables_behind d) in
+    subst (λ (n : List ℕ). list_any (bytes_eq n) (map (λ u. u.name) p.tables_behind) ≡ false) named (distinct_behind p.tables_before t p.tables_behind d) in
     let is : is_table name t ≡ true = (bytes_eq-Decides t.name name).1 named in
     let here : f t ≡ new = (rw is refl) in
     ap (λ (ts : List Table). map f ts) p.tables ∙ map_mid f p.tables_before t p.tables_behind
-        ∙ same_three (map f p.tables_before) p.tables_before (f t) new (map f p.tables_behind) p.tables_behind (untouched_tables name new p.tables_before p.others) here
-            (untouched_tables name new p.tables_behind (not_named name p.tables_behind none))
+    ∙ same_three (map f p.tables_before) p.tables_before (f t) new (map f p.tables_behind) p.tables_behind (untouched_tables name new p.tables_before p.others) here
+    (untouched_tables name new p.tables_behind (not_named name p.tables_behind none))
 
 pub exchanged : (db : Database) (name : List ℕ) (t new : Table) (infos : List TableInfo) (stored : List Stored) (p : Place name t db.tables infos stored) (info : TableInfo) (s : Stored)
     → AreDistinct (map (λ u. u.name) db.tables) → t.name ≡ name → IsStored new info s
     → AreStored (with_table db name new).tables (p.infos_before ++ info ∷ p.infos_behind) (p.stored_before ++ s ∷ p.stored_behind)
 exchanged db name t new infos stored p info s distinct named h =
     subst (λ (ts : List Table). AreStored ts (p.infos_before ++ info ∷ p.infos_behind) (p.stored_before ++ s ∷ p.stored_behind)) (sym (with_table_at db name t new infos stored p distinct named))
-        (joined p.tables_before p.tables_behind new p.infos_before info p.infos_behind p.stored_before s p.stored_behind p.before h p.behind)
+    (joined p.tables_before p.tables_behind new p.infos_before info p.infos_behind p.stored_before s p.stored_behind p.before h p.behind)
 
 -- The catalog with another heap there.
 
@@ -177,4 +177,4 @@ pub with_heap_mid : (before : List TableInfo) (i : TableInfo) (behind : List Tab
 with_heap_mid [] i behind heap h = same_pair (heap_at i.number heap i) (record i { heap = heap }) (map (heap_at i.number heap) behind) behind (same_number heap i) (heaps_behind i.number heap behind h.0)
 with_heap_mid (t ∷ before) i behind heap h =
     same_pair (heap_at i.number heap t) t (map (heap_at i.number heap) (before ++ i ∷ behind)) (before ++ record i { heap = heap } ∷ behind)
-        (other_number i.number heap t (number_apart t.number before i behind h.0)) (with_heap_mid before i behind heap h.1)
+    (other_number i.number heap t (number_apart t.number before i behind h.0)) (with_heap_mid before i behind heap h.1)

@@ -59,7 +59,7 @@ same_rows one columns (r ∷ rows) others [] h k = absurd h
 same_rows one columns (r ∷ rows) [] (s ∷ stored) h k = absurd k
 same_rows one columns (r ∷ rows) (q ∷ others) (s ∷ stored) h k =
     more_rows r q rows others (same_row r.number q.number r.fields q.fields (sym h.0.number ∙ k.0.number) (one (map (λ c. c.kind) columns) s.1 r.fields q.fields h.0.spelled k.0.spelled))
-        (same_rows one columns rows others stored h.1 k.1)
+    (same_rows one columns rows others stored h.1 k.1)
 
 same_table : OneRow → (pages : PageMap) (count other : ℕ) (t u : Table) (i : TableInfo) (s r : Stored) → StoresHeap pages count s → StoresHeap pages other r → IsStored t i s → IsStored u i r → t ≡ u
 same_table one pages count other t u i s r a b h k =
@@ -86,5 +86,5 @@ same_tables one pages count other (t ∷ ts) (u ∷ us) (i ∷ infos) (s ∷ a) 
 pub one_database : OneRow → (pages : PageMap) (a b : Database) (h : StandsFor pages a) (k : StandsFor pages b) → h.infos ≡ k.infos → a ≡ b
 one_database one pages a b h k infos =
     let tables : a.tables ≡ b.tables = same_tables one pages h.count k.count a.tables b.tables k.infos h.stored k.stored h.parts.stored k.parts.stored
-        (subst (λ (is : List TableInfo). AreStored a.tables is h.stored) infos h.tables) k.tables in
+    (subst (λ (is : List TableInfo). AreStored a.tables is h.stored) infos h.tables) k.tables in
     made_database a.tables b.tables a.indexes b.indexes tables (h.valid.no_index ∙ sym k.valid.no_index)

@@ -32,6 +32,7 @@ range_has a (suc len) n low high =
   where
     at_first : (n a : ℕ) (xs : List ℕ) → n ≡ a → 1 ≤ times n (a ∷ xs)
     at_first n a xs e = let one = times_one n xs in let least : 1 ≤ times n (n ∷ xs) = omega arith in subst (λ (m : ℕ). 1 ≤ times n (m ∷ xs)) e least
+
     above : (n a : ℕ) → (n ≡ a → ⊥) → a ≤ n → a + 1 ≤ n
     above n a differ le = omega arith
 
@@ -48,7 +49,7 @@ heaps_there pages count [] h = tt
 heaps_there pages count (x ∷ heaps) h =
     let s = h.0 in
     all_join (λ page. IsSome (pages page)) x.feet (feet_of heaps)
-        (subst (λ (feet : List ℕ). AllByRecursion (λ page. IsSome (pages page)) feet) (sym s.stand) (links_there pages 2 0 s.links s.held.linked)) (heaps_there pages count heaps h.1)
+    (subst (λ (feet : List ℕ). AllByRecursion (λ page. IsSome (pages page)) feet) (sym s.stand) (links_there pages 2 0 s.links s.held.linked)) (heaps_there pages count heaps h.1)
 
 pub all_there : (pages : PageMap) (db : Database) (s : StandsFor pages db) (page : ℕ) → page < s.count → IsSome (pages page)
 all_there pages db s page below =

@@ -18,7 +18,6 @@ use Rattle.gx_database.specs.Standing.{HasHeader}
 use Rattle.gx_database.proofs.Changes.{stands_once}
 use Rattle.gx_database.proofs.Times.{times_feet}
 
-
 pub catalog_held : {P : Type 0} (g : Ghosts P) (pages : P) (catalog : Directory) (tables : List TableInfo) (feet : List ℕ) (heaps : List Stored) (free : List ℕ)
     → HasParts (g.map pages) (g.count pages) tables feet heaps free → catalog.tables ≡ tables → catalog.indexes ≡ [] → catalog.chain ≡ chain_on feet → HoldsCatalog g pages catalog feet free
 catalog_held g pages catalog tables feet heaps free parts t i c =
@@ -48,9 +47,9 @@ pub heap_held : {P : Type 0} (g : Ghosts P) (pages : P) (tables : List TableInfo
 heap_held g pages tables feet front h back free parts =
     let s = at_place front h back parts.stored in
     let apart : IsApart (h.feet ++ free) = once_apart (h.feet ++ free) (λ n.
-        let o = stands_once (0 ∷ feet ++ feet_of (front ++ h ∷ back) ++ free) (g.count pages) parts.once n in
-        let a = times-append n (feet ++ feet_of (front ++ h ∷ back)) free in let b = times-append n feet (feet_of (front ++ h ∷ back)) in
-        let c = times_feet n front (h ∷ back) in let d = times-append n h.feet (feet_of back) in let e = times-append n h.feet free in omega arith) in
+    let o = stands_once (0 ∷ feet ++ feet_of (front ++ h ∷ back) ++ free) (g.count pages) parts.once n in
+    let a = times-append n (feet ++ feet_of (front ++ h ∷ back)) free in let b = times-append n feet (feet_of (front ++ h ∷ back)) in
+    let c = times_feet n front (h ∷ back) in let d = times-append n h.feet (feet_of back) in let e = times-append n h.feet free in omega arith) in
     record {
       links = s.links;
       held = record { held = s.held; frees = parts.frees; apart = subst (λ (xs : List ℕ). IsApart (xs ++ free)) s.stand apart };

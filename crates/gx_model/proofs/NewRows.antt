@@ -58,7 +58,6 @@ found_is_named columns name c h =
     let e : c.name ≡ name = (bytes_eq-Decides c.name name).0 (found (is_column name) columns c h) in
     subst (λ (n : List ℕ). column_named columns n ≡ Some c) (sym e) h
 
-
 targets_step : (columns : List Column) (name : List ℕ) (names : List (List ℕ)) (o : Option Column) → column_named columns name ≡ o
     → AllByRecursion (IsNamed columns) (filter_map (column_named columns) names) → AllByRecursion (IsNamed columns) (filter_map (column_named columns) (name ∷ names))
 targets_step columns name names None h k = rw h k
@@ -148,4 +147,4 @@ are_new facts columns targets number (row ∷ rows) (fields ∷ added) b f r t n
     let l = passed (fault_where 21 (nat_le end_of_numbers number)) (rows_checks columns targets (suc number) rows) m.1 in
     let less : number < end_of_numbers = below_end number l.0 in
     next_rises columns number fields added (fit facts columns targets row fields number r.0 m.0 t n)
-        (are_new facts columns targets (suc number) rows added (omega arith) l.1 r.1 t n)
+    (are_new facts columns targets (suc number) rows added (omega arith) l.1 r.1 t n)

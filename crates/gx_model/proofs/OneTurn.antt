@@ -177,7 +177,7 @@ one_index : (i j : Index) (name table method column : List ℕ) (class : Option 
 one_index i j name table method column class parameter t p q =
     let c = one_class t.columns column method class i.class j.class p.class_is q.class_is in
     same_index i j (p.name_is ∙ sym q.name_is) (p.table_is ∙ sym q.table_is) (same_some (place_of t.columns column) i.column j.column p.column_is q.column_is) c
-        (one_parameter parameter i.class j.class i.parameter j.parameter c p.parameter_is q.parameter_is)
+    (one_parameter parameter i.class j.class i.parameter j.parameter c p.parameter_is q.parameter_is)
 
 pub one_effect : Facts → (db : Database) (said : Said) (x y : Stepped) → Does db said x → Does db said y → x ≡ y
 one_effect facts db Nothing x y p q = p ∙ sym q
@@ -193,19 +193,19 @@ one_effect facts db (Insert table listed rows) x y p q =
     let m = of_some (table_named db table) (Inserts db listed rows y) k.0 k.1 q in
     let t = k.0 in
     k.2.2 ∙ ap (λ (added : List (List (Option Datum))). done (with_table db t.name (with_rows t added)) (codes "INSERT 0 " ++ decimal (length rows)))
-        (one_rows facts t.columns (named t.columns listed) rows k.2.0 m.0 k.2.1 m.1) ∙ sym m.2
+    (one_rows facts t.columns (named t.columns listed) rows k.2.0 m.0 k.2.1 m.1) ∙ sym m.2
 one_effect facts db (Delete table tree) x y p q =
     let k = there (table_named db table) (Deletes db tree x) p in
     let m = of_some (table_named db table) (Deletes db tree y) k.0 k.1 q in
     let t = k.0 in
     k.2.2 ∙ ap (λ (c : Option Bound). done (with_table db t.name (record t { rows = others c t })) (codes "DELETE " ++ decimal (length (selected c t))))
-        (one_where facts t.columns tree k.2.0 m.0 k.2.1 m.1) ∙ sym m.2
+    (one_where facts t.columns tree k.2.0 m.0 k.2.1 m.1) ∙ sym m.2
 one_effect facts db (Select query) x y p q =
     let k = there (table_named db query.table) (Selects db query x) p in
     let m = of_some (table_named db query.table) (Selects db query y) k.0 k.1 q in
     let t = k.0 in
     k.2.2 ∙ ap (λ (c : Option Bound). let s : Stepped = record { database = db; reply = accepted (selection t query.columns (selected c t)) } in s)
-        (one_where facts t.columns query.condition k.2.0 m.0 k.2.1 m.1) ∙ sym m.2
+    (one_where facts t.columns query.condition k.2.0 m.0 k.2.1 m.1) ∙ sym m.2
 one_effect facts db (Explain query) x y p q =
     let k = there (table_named db query.table) (Explains db query x) p in
     let m = of_some (table_named db query.table) (Explains db query y) k.0 k.1 q in
@@ -213,7 +213,7 @@ one_effect facts db (Explain query) x y p q =
     let c = one_where facts t.columns query.condition k.2.0 m.0 k.2.2 m.2 in
     let r = one_found t (plan_where db t m.0) k.2.1 m.1 (subst (λ (b : Option Bound). Finds t (plan_where db t b) k.2.1) c k.2.3) m.3 in
     k.2.4 ∙ ap (λ (b : Option Bound). let s : Stepped = record { database = db; reply = accepted (explanation (plan_text (plan_where db t b)) (length k.2.1) (length (selected b t))) } in s) c
-        ∙ ap (λ (rows : List Row). let s : Stepped = record { database = db; reply = accepted (explanation (plan_text (plan_where db t m.0)) (length rows) (length (selected m.0 t))) } in s) r ∙ sym m.4
+    ∙ ap (λ (rows : List Row). let s : Stepped = record { database = db; reply = accepted (explanation (plan_text (plan_where db t m.0)) (length rows) (length (selected m.0 t))) } in s) r ∙ sym m.4
 one_effect facts db (Vacuum table) x y p q = p ∙ sym q
 one_effect facts db Checkpoint x y p q = p ∙ sym q
 one_effect facts db Begin x y p q = p ∙ sym q

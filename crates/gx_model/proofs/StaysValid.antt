@@ -104,8 +104,10 @@ limits n m h = let e = both (nat_le most_tables n) (nat_lt most_columns m) h in 
     both : (a b : Bool) → (a || b) ≡ false → (a ≡ false) × (b ≡ false)
     both true b k = cc
     both false b k = (refl, k)
+
     less : (k : ℕ) → nat_le most_tables k ≡ false → suc k ≤ most_tables
     less k e = grind (arith, nat_tests)
+
     few : (k : ℕ) → nat_lt most_columns k ≡ false → k ≤ most_columns
     few k e = grind (arith, nat_tests)
 
@@ -133,9 +135,9 @@ created db name words v s f =
     let l = limits (length db.tables) (length words) m.0 in
     let t : Table = new_table name words in
     valid_tables (with_new_table db name words) (all_push IsTable db.tables t v.tables (new_is_table name words s.0 s.1 m.1 l.1))
-        (subst (λ (ns : List (List ℕ)). AreDistinct ns) (sym (map_join name_of db.tables (t ∷ []))) (distinct_push (map name_of db.tables) name v.names (not_there name db.tables k.0)))
-        (subst (λ (n : ℕ). n ≤ most_tables) (sym (length_push db.tables t)) l.0)
-        v.no_index
+    (subst (λ (ns : List (List ℕ)). AreDistinct ns) (sym (map_join name_of db.tables (t ∷ []))) (distinct_push (map name_of db.tables) name v.names (not_there name db.tables k.0)))
+    (subst (λ (n : ℕ). n ≤ most_tables) (sym (length_push db.tables t)) l.0)
+    v.no_index
 
 -- Another table in place of one.
 
@@ -153,7 +155,7 @@ same_names : (name : List ℕ) (new : Table) (ts : List Table) → new.name ≡ 
 same_names name new [] e = refl
 same_names name new (t ∷ ts) e =
     same_two (replaced name new t).name t.name (map name_of (map (replaced name new) ts)) (map name_of ts)
-        (same_names_step name new t (is_table name t) refl e) (same_names name new ts e)
+    (same_names_step name new t (is_table name t) refl e) (same_names name new ts e)
 
 either : (b : Bool) (new t : Table) → IsTable new → IsTable t → IsTable (cond b new t)
 either true new t h k = h
@@ -166,9 +168,9 @@ all_replaced name new (t ∷ ts) h k = (either (is_table name t) new t h k.0, al
 exchanged : (db : Database) (name : List ℕ) (new : Table) → IsValid db → IsTable new → new.name ≡ name → IsValid (with_table db name new)
 exchanged db name new v h e =
     valid_tables (with_table db name new) (all_replaced name new db.tables h v.tables)
-        (subst (λ (ns : List (List ℕ)). AreDistinct ns) (sym (same_names name new db.tables e)) v.names)
-        (subst (λ (n : ℕ). n ≤ most_tables) (sym (length_map (replaced name new) db.tables)) v.few)
-        v.no_index
+    (subst (λ (ns : List (List ℕ)). AreDistinct ns) (sym (same_names name new db.tables e)) v.names)
+    (subst (λ (n : ℕ). n ≤ most_tables) (sym (length_map (replaced name new) db.tables)) v.few)
+    v.no_index
 
 -- INSERT
 
@@ -209,7 +211,7 @@ fewer_rows t p h =
 deleted : (db : Database) (tree : Option Tree) (s : Stepped) (t : Table) → IsValid db → IsTable t → Deletes db tree s t → IsValid s.database
 deleted db tree s t v h d =
     subst (λ (e : Database). IsValid e) (sym (ap (λ (x : Stepped). x.database) d.2))
-        (exchanged db t.name (record t { rows = others d.0 t }) v (fewer_rows t (λ row. not (selects d.0 row.fields)) h) refl)
+    (exchanged db t.name (record t { rows = others d.0 t }) v (fewer_rows t (λ row. not (selects d.0 row.fields)) h) refl)
 
 -- DROP TABLE, DROP INDEX
 
@@ -219,7 +221,7 @@ dropped db name v =
     let most = v.few in
     let least : length (filter (λ t. not (is_table name t)) db.tables) ≤ most_tables = omega arith in
     valid_tables (without_table db name) (all_kept IsTable (λ t. not (is_table name t)) db.tables v.tables) (distinct_kept name_of (λ t. not (is_table name t)) db.tables v.names) least
-        (ap (λ (is : List Index). filter (λ i. not (bytes_eq i.table name)) is) v.no_index)
+    (ap (λ (is : List Index). filter (λ i. not (bytes_eq i.table name)) is) v.no_index)
 
 index_dropped : (db : Database) (name : List ℕ) → IsValid db → IsValid (without_index db name)
 index_dropped db name v = valid_tables (without_index db name) v.tables v.names v.few (ap (λ (is : List Index). filter (λ i. not (bytes_eq i.name name)) is) v.no_index)

@@ -80,11 +80,17 @@ selected_all db name s t e a =
 
 pub deleted : (db : Database) (name : List ℕ) (tree : Option Tree) (s : Stepped) (t : Table) → Accepts db (Delete name tree) s → table_named db name ≡ Some t
     → (condition : Option Bound) × (rows : List Row) × BindsWhere t.columns tree condition × (table_named s.database name ≡ Some (record t { rows = rows }))
-        × ((row : Row) → IsIn row rows ↔ (IsIn row t.rows × (selects condition row.fields ≡ false)))
+    × ((row : Row) → IsIn row rows ↔ (IsIn row t.rows × (selects condition row.fields ≡ false)))
 deleted db name tree s t a e =
     let k = of_some (table_named db name) (Deletes db tree s) t e (accepted_does db (Delete name tree) s a) in
     let rows : List Row = others k.0 t in
-    let p : Row → Bool = λ row. not (selects k.0 row.fields) in
-    (k.0, rows, k.1, ap (λ (x : Stepped). table_named x.database name) k.2 ∙ table_after db name t (record t { rows = rows }) e refl,
-        λ row. (λ i. (let m = kept p t.rows row i in (m.0, not_true (selects k.0 row.fields) m.1)),
-            λ i. stays p t.rows row i.0 (not_false (selects k.0 row.fields) i.1)))
+    let p : Row → Bool = λ row. not (selects k.0 row.fields) in (
+      k.0,
+      rows,
+      k.1,
+      ap (λ (x : Stepped). table_named x.database name) k.2 ∙ table_after db name t (record t { rows = rows }) e refl,
+      λ row. (
+        λ i. (let m = kept p t.rows row i in (m.0, not_true (selects k.0 row.fields) m.1)),
+        λ i. stays p t.rows row i.0 (not_false (selects k.0 row.fields) i.1),
+      ),
+    )

@@ -32,7 +32,7 @@ found_new : (name : List ℕ) (new : Table) (ts : List Table) (t : Table) → fi
 found_new name new [] t e n = cc
 found_new name new (x ∷ ts) t e n =
     new_step (is_table name x) name new x (find (is_table name) ts) (find (is_table name) (map (λ y. cond (is_table name y) new y) ts)) t refl n
-        (λ h. found_new name new ts t h n) e
+    (λ h. found_new name new ts t h n) e
 
 -- the table of a name has the name
 pub has_name : (db : Database) (name : List ℕ) (t : Table) → table_named db name ≡ Some t → t.name ≡ name

@@ -12,7 +12,6 @@ use Rattle.gx_opr.specs.Literals.{ReadsOperand, RefusesOperand}
 use Rattle.gx_opr.specs.Operands.{Right}
 use Rattle.gx_parse.specs.declared.statement.Given.{Given}
 use Rattle.gx_value.specs.declared.fields.Column.{Column}
-
 use Rattle.gx_model.specs.Values.{ReadsRow}
 
 pub data Check : Type 0 where

@@ -79,8 +79,8 @@ abbrev pub TurnsSeen : Session → Said → Turned → Type 0
 TurnsSeen session said turned =
     ((n : ℕ) × Find (checks (seen session) said) (Some n) × (turned ≡ refused session (refusal n)))
     ⊎ (Find (checks (seen session) said) None
-        × (stepped : Stepped) × Does (seen session) said stepped
-        × (turned ≡ record { session = with_seen session stepped.database; reply = stepped.reply; growth = growth_of said }))
+    × (stepped : Stepped) × Does (seen session) said stepped
+    × (turned ≡ record { session = with_seen session stepped.database; reply = stepped.reply; growth = growth_of said }))
 
 -- Outside a block each statement is a transaction of its own.
 abbrev pub TurnsIdle : Session → Said → Turned → Type 0

@@ -38,7 +38,7 @@ pub fn deleted_rows()
     ensures { (db : Database) (name : List ℕ) (tree : Option Tree) (stepped : Stepped) (t : Table)
         → Accepts db (Delete name tree) stepped → table_named db name ≡ Some t
         → (condition : Option Bound) × (rows : List Row) × BindsWhere t.columns tree condition × (table_named stepped.database name ≡ Some (record t { rows = rows }))
-            × ((row : Row) → IsIn row rows ↔ (IsIn row t.rows × (selects condition row.fields ≡ false))) }
+        × ((row : Row) → IsIn row rows ↔ (IsIn row t.rows × (selects condition row.fields ≡ false))) }
 {}
 
 /// ROLLBACK gives back the committed database, and no block is open behind it.

@@ -3,4 +3,6 @@
 
 mod laws;
 
-pub use laws::{deleted_rows, inserted_rows, one_turn, refused_changes_nothing, rolled_back, stays_valid};
+pub use laws::{
+    deleted_rows, inserted_rows, one_turn, refused_changes_nothing, rolled_back, stays_valid,
+};
