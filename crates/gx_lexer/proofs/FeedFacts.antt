@@ -238,12 +238,12 @@ cuts_one first s t chunk rest n kept before between after is below k tm tk ts a 
       feeds = record {
         sound = ts ∙ p.feeds.sound;
         cuts = λ script f.
-          let g = p.feeds.cuts script f in
-          let h = quiet_on s (script ++ p.done) bs between g.fed q in
-          let o = one_byte u ((script ++ p.done) ++ bs) b between h.fed in
-          let P : Standing → Type 0 = λ x. CutsOn x script (p.done ++ (bs ++ b ∷ [])) before after in
-          let Q : List Piece → Type 0 = λ x. CutsOn (standing_after u b) script (p.done ++ (bs ++ b ∷ [])) before x in
-          subst P v (subst Q w (and_on s (standing_after u b) script p.done (bs ++ b ∷ []) before between (between ++ ended_at u b) g (and_on u (standing_after u b) (script ++ p.done) bs (b ∷ []) between between (between ++ ended_at u b) h o)));
+            let g = p.feeds.cuts script f in
+            let h = quiet_on s (script ++ p.done) bs between g.fed q in
+            let o = one_byte u ((script ++ p.done) ++ bs) b between h.fed in
+            let P : Standing → Type 0 = λ x. CutsOn x script (p.done ++ (bs ++ b ∷ [])) before after in
+            let Q : List Piece → Type 0 = λ x. CutsOn (standing_after u b) script (p.done ++ (bs ++ b ∷ [])) before x in
+            subst P v (subst Q w (and_on s (standing_after u b) script p.done (bs ++ b ∷ []) before between (between ++ ended_at u b) g (and_on u (standing_after u b) (script ++ p.done) bs (b ∷ []) between between (between ++ ended_at u b) h o)));
       };
     }
 
@@ -258,11 +258,11 @@ cuts_none first s t chunk rest n before after is all tm tk ts p =
     record {
       sound = ts ∙ p.feeds.sound;
       cuts = λ script f.
-        let g = p.feeds.cuts script f in
-        let h = quiet_on s (script ++ p.done) rest after g.fed q in
-        let P : Standing → Type 0 = λ x. CutsOn x script chunk before after in
-        let Q : List ℕ → Type 0 = λ x. CutsOn (quiet s rest) script x before after in
-        subst P v (subst Q (sym p.parts) (and_on s (quiet s rest) script p.done rest before after after g h));
+          let g = p.feeds.cuts script f in
+          let h = quiet_on s (script ++ p.done) rest after g.fed q in
+          let P : Standing → Type 0 = λ x. CutsOn x script chunk before after in
+          let Q : List ℕ → Type 0 = λ x. CutsOn (quiet s rest) script x before after in
+          subst P v (subst Q (sym p.parts) (and_on s (quiet s rest) script p.done rest before after after g h));
     }
 
 -- A loop over bytes, to the first that ends a piece.

@@ -78,14 +78,36 @@ one_element laws text (Err d) (Err e) m n (inr p) (inr q) = ap Err (p.1 ∙ sym 
 ok_not_memory : (q : Lquery) → Ok q ≢ Err Memory
 ok_not_memory q e = cc
 
-ok_same : (p q : Lquery) → Ok p ≡ Ok q → p ≡ q
+abbrev found_query : Lquery → Result Lquery ValueError
+found_query q = Ok q
+
+abbrev found_texts : List (List ℕ) → Result (List (List ℕ)) ValueError
+found_texts a = Ok a
+
+ok_same : (p q : Lquery) → found_query p ≡ found_query q → p ≡ q
 ok_same p q e = cc
+
+texts_same : (a b : List (List ℕ)) → found_texts a ≡ found_texts b → a ≡ b
+texts_same a b e = cc
 
 ok_or_err : (q : Lquery) (e : ValueError) → Ok q ≡ Err e → ⊥
 ok_or_err q e h = cc
 
-err_same : (e f : ValueError) → Err e ≡ Err f → e ≡ f
-err_same e f h = cc
+-- errors of readers of one query, and of some texts
+abbrev query_fault : ValueError → Result Lquery ValueError
+query_fault e = Err e
+
+abbrev texts_fault : ValueError → Result (List (List ℕ)) ValueError
+texts_fault e = Err e
+
+query_faults : (d e : ValueError) → query_fault d ≡ query_fault e → d ≡ e
+query_faults d e h = cc
+
+texts_or_fault : (a : List (List ℕ)) (e : ValueError) → found_texts a ≡ texts_fault e → ⊥
+texts_or_fault a e h = cc
+
+texts_faults : (d e : ValueError) → texts_fault d ≡ texts_fault e → d ≡ e
+texts_faults d e h = cc
 
 same_queries : Laws → (elements : List (List ℕ)) (a b : List Lquery) → AreQueries elements a → AreQueries elements b → a ≡ b
 same_queries laws [] [] [] p q = refl
@@ -115,25 +137,22 @@ abbrev QueriesSay : List (List ℕ) → Result (List Lquery) ValueError → Type
 QueriesSay elements (Ok queries) = AreQueries elements queries
 QueriesSay elements (Err e) = RefusesQueries elements e
 
-no_both : Laws → (elements : List (List ℕ)) (queries : List Lquery) (e : ValueError) → Err {A = Lquery} e ≢ Err Memory → AreQueries elements queries → RefusesFirst elements e → ⊥
+no_both : Laws → (elements : List (List ℕ)) (queries : List Lquery) (e : ValueError) → e ≢ Memory → AreQueries elements queries → RefusesFirst elements e → ⊥
 no_both laws elements queries e n h f =
     let P : List (List ℕ) → Type 0 = λ l. AreQueries l queries in
     let q = query_at f.front f.text f.rest queries (subst P f.parts h) in
-    ok_or_err q.0 e (one_element laws f.text (Ok q.0) (Err e) (ok_not_memory q.0) n q.1 f.refused)
+    ok_or_err q.0 e (one_element laws f.text (Ok q.0) (Err e) (ok_not_memory q.0) (λ k. n (query_faults e Memory k)) q.1 f.refused)
 
-not_memory : {A B : Type 0} (e : ValueError) → Err {A} e ≢ Err Memory → Err {B} e ≢ Err Memory
-not_memory e n h = cc
-
-is_none : (elements : List (List ℕ)) (e : ValueError) → Err {List Lquery} e ≢ Err Memory → RefusesFirst elements e → e ≡ NoValue
-is_none elements e n f = none_only f.text e (λ h. n (ap Err h)) f.refused
+is_none : (elements : List (List ℕ)) (e : ValueError) → e ≢ Memory → RefusesFirst elements e → e ≡ NoValue
+is_none elements e n f = none_only f.text e n f.refused
 
 one_query_list : Laws → (elements : List (List ℕ)) → IsOne (QueriesSay elements)
 one_query_list laws elements (Ok a) (Ok b) m n p q = ap Ok (same_queries laws elements a b p q)
-one_query_list laws elements (Ok a) (Err e) m n p (inl f) = absurd (no_both laws elements a e (not_memory e n) p f)
+one_query_list laws elements (Ok a) (Err e) m n p (inl f) = absurd (no_both laws elements a e (λ h. n (ap Err h)) p f)
 one_query_list laws elements (Ok a) (Err e) m n p (inr f) = absurd (n (ap Err f))
-one_query_list laws elements (Err d) (Ok b) m n (inl f) q = absurd (no_both laws elements b d (not_memory d m) q f)
+one_query_list laws elements (Err d) (Ok b) m n (inl f) q = absurd (no_both laws elements b d (λ h. m (ap Err h)) q f)
 one_query_list laws elements (Err d) (Ok b) m n (inr f) q = absurd (m (ap Err f))
-one_query_list laws elements (Err d) (Err e) m n (inl f) (inl g) = ap Err (is_none elements d m f ∙ sym (is_none elements e n g))
+one_query_list laws elements (Err d) (Err e) m n (inl f) (inl g) = ap Err (is_none elements d (λ h. m (ap Err h)) f ∙ sym (is_none elements e (λ h. n (ap Err h)) g))
 one_query_list laws elements (Err d) (Err e) m n (inl f) (inr g) = absurd (n (ap Err g))
 one_query_list laws elements (Err d) (Err e) m n (inr f) q = absurd (m (ap Err f))
 
@@ -148,18 +167,10 @@ ArraySays text (Ok queries) = SpellsRight operand.LqueryArray text (lqueries que
 ArraySays text (Err e) = RefusesRight operand.LqueryArray text e
 
 same_elements : Laws → (text : List ℕ) (a b : List (List ℕ)) → AnswersTexts text (Ok a) → AnswersTexts text (Ok b) → a ≡ b
-same_elements laws text a b p q = by (laws.one_list text (Ok a) (Ok b) (λ e. cc) (λ e. cc) p q)
-  where
-    by : Ok a ≡ Ok b → a ≡ b
-    by e = cc
+same_elements laws text a b p q = texts_same a b (laws.one_list text (Ok a) (Ok b) (λ e. cc) (λ e. cc) p q)
 
 no_elements : Laws → (text : List ℕ) (a : List (List ℕ)) (e : ValueError) → e ≢ Memory → AnswersTexts text (Ok a) → AnswersTexts text (Err e) → ⊥
-no_elements laws text a e n p q = by (laws.one_list text (Ok a) (Err e) (λ h. cc) (λ h. n (same h)) p q)
-  where
-    by : Ok a ≡ Err e → ⊥
-    by h = cc
-    same : Err {List (List ℕ)} e ≡ Err Memory → e ≡ Memory
-    same h = cc
+no_elements laws text a e n p q = texts_or_fault a e (laws.one_list text (Ok a) (Err e) (λ h. cc) (λ h. n (texts_faults e Memory h)) p q)
 
 one_array : Laws → (text : List ℕ) → IsOne (ArraySays text)
 one_array laws text (Ok a) (Ok b) m n p q =
@@ -173,12 +184,8 @@ one_array laws text (Err d) (Ok b) m n (inl p) q = absurd (no_elements laws text
 one_array laws text (Err d) (Ok b) m n (inr p) q =
     let P : List (List ℕ) → Type 0 = λ l. AreQueries l b in
     one_query_list laws p.0 (Err d) (Ok b) m n p.2 (subst P (same_elements laws text q.0 p.0 q.1 p.1) q.2)
-one_array laws text (Err d) (Err e) m n (inl p) (inl q) = by (laws.one_list text (Err d) (Err e) (λ h. m (again d h)) (λ h. n (again e h)) p q)
-  where
-    by : Err {List (List ℕ)} d ≡ Err e → Err {List Lquery} d ≡ Err e
-    by h = let same : d ≡ e = cc in ap Err same
-    again : (x : ValueError) → Err {List (List ℕ)} x ≡ Err Memory → Err {List Lquery} x ≡ Err Memory
-    again x h = let same : x ≡ Memory = cc in ap Err same
+one_array laws text (Err d) (Err e) m n (inl p) (inl q) =
+    ap Err (texts_faults d e (laws.one_list text (Err d) (Err e) (λ h. m (ap Err (texts_faults d Memory h))) (λ h. n (ap Err (texts_faults e Memory h))) p q))
 one_array laws text (Err d) (Err e) m n (inl p) (inr q) = absurd (no_elements laws text q.0 d (λ h. m (ap Err h)) q.1 p)
 one_array laws text (Err d) (Err e) m n (inr p) (inl q) = absurd (no_elements laws text p.0 e (λ h. n (ap Err h)) p.1 q)
 one_array laws text (Err d) (Err e) m n (inr p) (inr q) =

@@ -18,15 +18,60 @@ struct Kind {
 }
 
 const KINDS: [Kind; 9] = [
-    Kind { name: "insert", head: "INSERT INTO t VALUES (0, '')", row: ", (1, 'ab')", end: ";" },
-    Kind { name: "selects", head: "", row: "SELECT * FROM t WHERE a = 1;", end: "" },
-    Kind { name: "elements", head: "INSERT INTO t VALUES (ARRAY[0", row: ",1", end: "]);" },
-    Kind { name: "ands", head: "SELECT * FROM t WHERE a = 1", row: " AND a = 1", end: ";" },
-    Kind { name: "opens", head: "SELECT * FROM t WHERE ", row: "(", end: ";" },
-    Kind { name: "quotes", head: "INSERT INTO t VALUES ('", row: "''", end: "');" },
-    Kind { name: "dashes", head: "", row: "-", end: "\n;" },
-    Kind { name: "digits", head: "INSERT INTO t VALUES (1", row: "2", end: ");" },
-    Kind { name: "letters", head: "INSERT INTO t VALUES ('", row: "a", end: "');" },
+    Kind {
+        name: "insert",
+        head: "INSERT INTO t VALUES (0, '')",
+        row: ", (1, 'ab')",
+        end: ";",
+    },
+    Kind {
+        name: "selects",
+        head: "",
+        row: "SELECT * FROM t WHERE a = 1;",
+        end: "",
+    },
+    Kind {
+        name: "elements",
+        head: "INSERT INTO t VALUES (ARRAY[0",
+        row: ",1",
+        end: "]);",
+    },
+    Kind {
+        name: "ands",
+        head: "SELECT * FROM t WHERE a = 1",
+        row: " AND a = 1",
+        end: ";",
+    },
+    Kind {
+        name: "opens",
+        head: "SELECT * FROM t WHERE ",
+        row: "(",
+        end: ";",
+    },
+    Kind {
+        name: "quotes",
+        head: "INSERT INTO t VALUES ('",
+        row: "''",
+        end: "');",
+    },
+    Kind {
+        name: "dashes",
+        head: "",
+        row: "-",
+        end: "\n;",
+    },
+    Kind {
+        name: "digits",
+        head: "INSERT INTO t VALUES (1",
+        row: "2",
+        end: ");",
+    },
+    Kind {
+        name: "letters",
+        head: "INSERT INTO t VALUES ('",
+        row: "a",
+        end: "');",
+    },
 ];
 
 const SIZES: [usize; 3] = [250_000, 500_000, 1_000_000];

@@ -39,16 +39,21 @@ fn conditions_are_grouped(rt: HostRuntime) -> Result<(), Fail> {
         ("a = 1 AND b = 2 OR c = 3", "((a&b)|c)"),
         ("a = 1 AND (b = 2 OR c = 3)", "(a&(b|c))"),
         ("NOT a = 1 AND b IS NULL", "(!a&b)"),
-        ("NOT NOT (a = 1 OR NOT b IS NOT NULL) OR c = 3", "(!!(a|!b)|c)"),
+        (
+            "NOT NOT (a = 1 OR NOT b IS NOT NULL) OR c = 3",
+            "(!!(a|!b)|c)",
+        ),
     ];
     for (condition, wanted) in rows {
         let mut piece = Bytes::from_slice(rt.alloc(), b"DELETE FROM t WHERE ")?;
         piece.extend_from_slice(condition.as_bytes())?;
         let mut shown = Bytes::new(rt.alloc());
-        if let Ok(Statement::Delete {
-            condition: Some(condition),
-            ..
-        }) = parse(rt.alloc(), piece.as_slice())
+        if let Ok(
+            Statement::Delete {
+                condition: Some(condition),
+                ..
+            },
+        ) = parse(rt.alloc(), piece.as_slice())
         {
             show(&condition, &mut shown)?;
         }

@@ -11,8 +11,7 @@ returns-in_err-query-clause-answers c =
 
 pub loop-text-preserved : goal.loop-text-preserved
 loop-text-preserved c =
-    let pushed : c.push.new.self ≡ c.loop-text.queries ++ c.in_ok-query.query ∷ [] = search rules in
-    (
+    let pushed : c.push.new.self ≡ c.loop-text.queries ++ c.in_ok-query.query ∷ [] = search rules in (
       query_read c.args.texts.now c.loop-text.text-index c.text-item.result c.as_slice.result.now c.loop-text.queries c.push.new.self c.in_ok-query.query c.loop-text-test.true c.text-item.is c.as_slice.ensures c.loop-text.invariant.0 c.in_ok-query.ensures.answers pushed,
       valid_more c.loop-text.queries c.push.new.self c.in_ok-query.query pushed c.loop-text.invariant.1 c.in_ok-query.ensures.valid,
     )
