@@ -14,7 +14,7 @@ use Rattle.gx_database.specs.Parts.{HasParts}
 use Rattle.gx_database.specs.Standing.{HasHeader, StandsFor}
 
 empty_page : catalog_page ≡ spelling (slots 3 0 [])
-unfolding catalog_page spelling
+unfolding catalog_page spelling le64 le16
 empty_page = ap (λ (zs : List ℕ). 3 ∷ 0 ∷ le16 0 ++ le16 8192 ++ le16 0 ++ le64 0 ++ zs) (sym (append-nil (replicate 8176 0)))
 
 first_link : IsLink empty_pages 3 0 (1, [])

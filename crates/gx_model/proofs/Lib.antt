@@ -8,3 +8,5 @@ mod NewRows
 mod StaysValid
 mod TurnsValid
 mod OneCost
+mod TruthLemmas
+mod OneRun

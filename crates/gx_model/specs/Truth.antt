@@ -33,7 +33,13 @@ abbrev pub is_true : Truth → Bool
 is_true True = true
 is_true _ = false
 
--- False, unknown and true rise in this order. AND is the least,
+-- False, unknown and true rise in this order.
+abbrev pub rank : Truth → ℕ
+rank False = 0
+rank Unknown = 1
+rank True = 2
+
+-- AND is the least,
 abbrev pub and_of : Truth → Truth → Truth
 and_of False b = False
 and_of Unknown False = False

@@ -1,8 +1,9 @@
 //! Laws of the model, which say what its definitions come to.
 
-ghost use Rattle.std.specs.Prelude.{◌≡◌, ◌↔◌, ℕ, ◌+◌, false, List, ◌++◌, length, codes, Option, Some, None, IsSome};
+ghost use Rattle.std.specs.Prelude.{◌≡◌, ◌↔◌, ℕ, ◌-◌, min, max, false, List, ◌++◌, length, codes, Option, Some, None, IsSome};
 ghost use Rattle.std.specs.Fmt.{decimal};
 ghost use Rattle.std.specs.List.{flat_map};
+ghost use Rattle.gx_value.specs.declared.operators.Operator.{Operator};
 ghost use Rattle.gx_value.specs.Values.{Datum};
 ghost use Rattle.gx_parse.specs.Answers.{says};
 ghost use Rattle.gx_parse.specs.declared.statement.Given.{Given};
@@ -11,8 +12,9 @@ ghost use Rattle.gx_parse.specs.Trees.{Tree};
 ghost use Rattle.gx_model.specs.Conditions.{BindsWhere};
 ghost use Rattle.gx_model.specs.Database.{Database, Table, Row, IsIn, IsValid, table_named, with_rows};
 ghost use Rattle.gx_model.specs.Replies.{line, row_line};
+ghost use Rattle.gx_model.specs.Runs.{State, Done, AreDone, HasRoom};
 ghost use Rattle.gx_model.specs.Steps.{Stepped, Steps, Accepts, select_all, HasShortNames};
-ghost use Rattle.gx_model.specs.Truth.{Bound, selects};
+ghost use Rattle.gx_model.specs.Truth.{Bound, Operand, Truth, Unknown, rank, and_of, or_of, not_of, truth_of_atom, selects};
 ghost use Rattle.gx_model.specs.Turns.{Session, AreValid, session_over, refused_in, Turned, Turns, TurnCosts, reading_of};
 ghost use Rattle.gx_model.specs.Values.{named, ReadsRows};
 
@@ -64,6 +66,24 @@ pub fn stays_valid()
     ensures step { (db : Database) (said : Said) (stepped : Stepped) → IsValid db → HasShortNames said → Steps db said stepped → IsValid stepped.database }
     ensures turn { (session : Session) (piece : List ℕ) (turned : Turned) → ((said : Said) → reading_of piece ≡ Some (says said) → HasShortNames said) → AreValid session
         → Turns session piece turned → AreValid turned.session }
+{
+    gx_value::one_answer();
+    gx_value::one_row();
+    gx_opr::one_operand();
+}
+
+/// AND is the least and OR the greatest of false, unknown and true, which rise in this order, and NOT turns them round. An
+/// operator is unknown of NULL.
+pub fn three_values()
+    ensures least { (a b : Truth) → rank (and_of a b) ≡ min (rank a) (rank b) }
+    ensures greatest { (a b : Truth) → rank (or_of a b) ≡ max (rank a) (rank b) }
+    ensures turned { (a : Truth) → rank (not_of a) ≡ 2 - rank a }
+    ensures null { (op : Operator) (operand : Option Operand) → truth_of_atom op None operand ≡ Unknown }
+{}
+
+/// Where there is room for all that the pieces may add, as many of them are done in one way.
+pub fn one_run()
+    ensures { (from : State) (pieces : List (List ℕ)) (a b : List Done) → HasRoom from pieces → AreDone from pieces a → AreDone from pieces b → length a ≡ length b → a ≡ b }
 {
     gx_value::one_answer();
     gx_value::one_row();

@@ -4,5 +4,6 @@
 mod laws;
 
 pub use laws::{
-    deleted_rows, inserted_rows, one_turn, refused_changes_nothing, rolled_back, stays_valid,
+    deleted_rows, inserted_rows, one_run, one_turn, refused_changes_nothing, rolled_back,
+    stays_valid, three_values,
 };
