@@ -1,15 +1,15 @@
 -- A table of a database and its place in the catalog and among the heaps; another table in that place.
-use Rattle.std.proofs.Common.{◌≡◌, ◌≢◌, ℕ, Bool, true, false, ◌||◌, cond, eqb, List, [], ◌∷◌, ◌++◌, map, Option, Some, None, refl, sym, ◌∙◌, ap, subst, ⊎_elim}
-use Rattle.std.specs.Prelude.{find}
+use Rattle.std.proofs.Common.{◌≡◌, ◌≢◌, ℕ, Bool, true, false, not, ◌||◌, cond, eqb, List, [], ◌∷◌, ◌++◌, map, Option, Some, None, refl, sym, ◌∙◌, ap, subst, ⊎_elim}
+use Rattle.std.specs.Prelude.{find, filter}
 use Rattle.std.specs.List.{AllByRecursion, list_any}
 use Rattle.std.specs.Str.{bytes_eq}
 use Rattle.std.proofs.lemmas.Bool.Decides.{eqb_tells}
 use Rattle.std.proofs.lemmas.Slice.Eq.{bytes_eq-Decides}
 use Rattle.gx_heap.specs.declared.heap.Heap.{Heap}
-use Rattle.gx_catalog.specs.Catalogs.{with_heap}
+use Rattle.gx_catalog.specs.Catalogs.{with_heap, without_table as without_info}
 use Rattle.gx_catalog.specs.Validity as catalogs
 use Rattle.gx_catalog.specs.declared.info.TableInfo.{TableInfo}
-use Rattle.gx_model.specs.Database.{Database, Table, AreDistinct, is_table, table_named, with_table}
+use Rattle.gx_model.specs.Database.{Database, Table, AreDistinct, is_table, table_named, with_table, without_table}
 use Rattle.gx_database.specs.Heaps.{Stored}
 use Rattle.gx_database.specs.Standing.{IsStored, AreStored}
 use Rattle.gx_database.specs.Places.{Place}
@@ -178,3 +178,80 @@ with_heap_mid [] i behind heap h = same_pair (heap_at i.number heap i) (record i
 with_heap_mid (t ∷ before) i behind heap h =
     same_pair (heap_at i.number heap t) t (map (heap_at i.number heap) (before ++ i ∷ behind)) (before ++ record i { heap = heap } ∷ behind)
     (other_number i.number heap t (number_apart t.number before i behind h.0)) (with_heap_mid before i behind heap h.1)
+
+-- A table more.
+
+pub added : (ts : List Table) (infos : List TableInfo) (stored : List Stored) (t : Table) (i : TableInfo) (s : Stored) → AreStored ts infos stored → IsStored t i s
+    → AreStored (ts ++ t ∷ []) (infos ++ i ∷ []) (stored ++ s ∷ [])
+added ts infos stored t i s h k = joined ts [] t infos i [] stored s [] h k (refl, refl)
+
+-- A table less.
+
+no_info : (i : TableInfo) (is : List TableInfo) → i ∷ is ≡ [] → ⊥
+no_info i is h = cc
+
+no_stored : (s : Stored) (ss : List Stored) → s ∷ ss ≡ [] → ⊥
+no_stored s ss h = cc
+
+both_stored : (before behind : List Table) (ib ia : List TableInfo) (sb sa : List Stored) → AreStored before ib sb → AreStored behind ia sa → AreStored (before ++ behind) (ib ++ ia) (sb ++ sa)
+both_stored [] behind [] ia [] sa b a = a
+both_stored [] behind [] ia (y ∷ sb) sa b a = absurd (no_stored y sb b.1)
+both_stored [] behind (x ∷ ib) ia sb sa b a = absurd (no_info x ib b.0)
+both_stored (u ∷ before) behind [] ia sb sa b a = absurd b
+both_stored (u ∷ before) behind (x ∷ ib) ia [] sa b a = absurd b
+both_stored (u ∷ before) behind (x ∷ ib) ia (y ∷ sb) sa b a = (b.0, both_stored before behind ib ia sb sa b.1 a)
+
+abbrev differs : List ℕ → Table → Bool
+differs name t = not (is_table name t)
+
+kept_step : (b : Bool) (t : Table) (rest more : List Table) → b ≡ false → rest ≡ more → cond (not b) (t ∷ rest) rest ≡ t ∷ more
+kept_step true t rest more h e = cc
+kept_step false t rest more h e = ap (λ (xs : List Table). t ∷ xs) e
+
+kept_tables : (name : List ℕ) (ts : List Table) → AllByRecursion (λ u. is_table name u ≡ false) ts → filter (differs name) ts ≡ ts
+kept_tables name [] h = refl
+kept_tables name (t ∷ ts) h = kept_step (is_table name t) t (filter (differs name) ts) ts h.0 (kept_tables name ts h.1)
+
+dropped_step : (b : Bool) (t : Table) (rest more : List Table) → b ≡ true → rest ≡ more → cond (not b) (t ∷ rest) rest ≡ more
+dropped_step true t rest more h e = e
+dropped_step false t rest more h e = cc
+
+dropped_mid : (name : List ℕ) (before : List Table) (t : Table) (behind : List Table) → AllByRecursion (λ u. is_table name u ≡ false) before → is_table name t ≡ true → AllByRecursion (λ u. is_table name u ≡ false) behind
+    → filter (differs name) (before ++ t ∷ behind) ≡ before ++ behind
+dropped_mid name [] t behind b is a = dropped_step (is_table name t) t (filter (differs name) behind) behind is (kept_tables name behind a)
+dropped_mid name (u ∷ before) t behind b is a =
+    kept_step (is_table name u) u (filter (differs name) (before ++ t ∷ behind)) (before ++ behind) b.0 (dropped_mid name before t behind b.1 is a)
+
+pub dropped : (db : Database) (name : List ℕ) (t : Table) (infos : List TableInfo) (stored : List Stored) (p : Place name t db.tables infos stored) → AreDistinct (map (λ u. u.name) db.tables) → t.name ≡ name
+    → AreStored (without_table db name).tables (p.infos_before ++ p.infos_behind) (p.stored_before ++ p.stored_behind)
+dropped db name t infos stored p distinct named =
+    let d : AreDistinct (map (λ u. u.name) (p.tables_before ++ t ∷ p.tables_behind)) = subst (λ (ts : List Table). AreDistinct (map (λ u. u.name) ts)) p.tables distinct in
+    let none : list_any (bytes_eq name) (map (λ u. u.name) p.tables_behind) ≡ false =
+    subst (λ (n : List ℕ). list_any (bytes_eq n) (map (λ u. u.name) p.tables_behind) ≡ false) named (distinct_behind p.tables_before t p.tables_behind d) in
+    let is : is_table name t ≡ true = (bytes_eq-Decides t.name name).1 named in
+    let e : filter (differs name) db.tables ≡ p.tables_before ++ p.tables_behind =
+    ap (λ (ts : List Table). filter (differs name) ts) p.tables ∙ dropped_mid name p.tables_before t p.tables_behind p.others is (not_named name p.tables_behind none) in
+    subst (λ (ts : List Table). AreStored ts (p.infos_before ++ p.infos_behind) (p.stored_before ++ p.stored_behind)) (sym e)
+    (both_stored p.tables_before p.tables_behind p.infos_before p.infos_behind p.stored_before p.stored_behind p.before p.behind)
+
+-- The catalog without it.
+
+abbrev stays_in : ℕ → TableInfo → Bool
+stays_in number t = not (eqb t.number number)
+
+stays_other : (number : ℕ) (t : TableInfo) (rest more : List TableInfo) → t.number ≢ number → rest ≡ more → cond (stays_in number t) (t ∷ rest) rest ≡ t ∷ more
+stays_other number t rest more n e =
+    ⊎_elim (λ same. absurd (n same.1)) (λ other. rw (other.0) (ap (λ (xs : List TableInfo). t ∷ xs) e)) (eqb_tells t.number number)
+
+goes_same : (t : TableInfo) (rest more : List TableInfo) → rest ≡ more → cond (stays_in t.number t) (t ∷ rest) rest ≡ more
+goes_same t rest more e = ⊎_elim (λ same. rw (same.0) e) (λ other. absurd (other.1 refl)) (eqb_tells t.number t.number)
+
+others_stay : (number : ℕ) (ts : List TableInfo) → AllByRecursion (λ n. number ≢ n) (map (λ t. t.number) ts) → filter (stays_in number) ts ≡ ts
+others_stay number [] h = refl
+others_stay number (t ∷ ts) h = stays_other number t (filter (stays_in number) ts) ts (λ e. h.0 (sym e)) (others_stay number ts h.1)
+
+pub without_mid : (before : List TableInfo) (i : TableInfo) (behind : List TableInfo) → catalogs.AreDistinct (map (λ t. t.number) (before ++ i ∷ behind))
+    → without_info i.number (before ++ i ∷ behind) ≡ before ++ behind
+without_mid [] i behind h = goes_same i (filter (stays_in i.number) behind) behind (others_stay i.number behind h.0)
+without_mid (t ∷ before) i behind h =
+    stays_other i.number t (filter (stays_in i.number) (before ++ i ∷ behind)) (before ++ behind) (number_apart t.number before i behind h.0) (without_mid before i behind h.1)

@@ -5,7 +5,7 @@ ghost use Rattle.std.specs.List.{AllByRecursion};
 ghost use Rattle.gx_words.specs.PageMap.{PageMap};
 ghost use Rattle.gx_pages.specs.Footprints.{KeepsPages};
 ghost use Rattle.gx_pages.specs.Frees.{HasCount, KeepsHeader};
-ghost use Rattle.gx_catalog.specs.Catalogs.{Directory, HoldsCatalog, Stores, chain_on, with_heap};
+ghost use Rattle.gx_catalog.specs.Catalogs.{Directory, HoldsCatalog, Stores, chain_on, with_heap, without_table as without_info};
 ghost use Rattle.gx_catalog.specs.Validity.{AreDistinct};
 ghost use Rattle.gx_catalog.specs.declared.info.TableInfo.{TableInfo};
 ghost use Rattle.gx_heap.specs.declared.heap.Heap.{Heap};
@@ -13,7 +13,7 @@ ghost use Rattle.gx_heap.specs.Heaps.{Row, HoldsHeap};
 ghost use Rattle.gx_database.specs.Heaps.{Stored, StoresHeap};
 ghost use Rattle.gx_database.specs.Parts.{HasParts, feet_of};
 ghost use Rattle.gx_pages.specs.Databases.{empty_pages};
-ghost use Rattle.gx_model.specs.Database.{Database, Table, IsValid, empty, table_named, with_table};
+ghost use Rattle.gx_model.specs.Database.{Database, Table, IsValid, empty, table_named, with_table, without_table};
 ghost use Rattle.gx_database.specs.Places.{Place};
 ghost use Rattle.gx_database.specs.Standing.{HasHeader, IsStored, AreStored, StandsFor};
 
@@ -58,15 +58,22 @@ pub fn one_database()
 }
 
 /// A table of a database has one place in the catalog and among the heaps. Another table there, stored as it says, gives the
-/// database with that table; another heap in its place in the catalog is what `Catalog::set_heap` writes.
+/// database with that table, a table behind all others the database with one more, and none there the database without it;
+/// the catalog is then as `Catalog::set_heap` and `Catalog::drop_table` write it.
 pub fn a_table_changes()
     ensures place { (db : Database) (name : List ℕ) (t : Table) (infos : List TableInfo) (stored : List Stored) → AreStored db.tables infos stored → table_named db name ≡ Some t
         → Place name t db.tables infos stored }
     ensures exchange { (db : Database) (name : List ℕ) (t new : Table) (infos : List TableInfo) (stored : List Stored) (place : Place name t db.tables infos stored) (info : TableInfo) (changed : Stored)
         → IsValid db → t.name ≡ name → IsStored new info changed
         → AreStored (with_table db name new).tables (place.infos_before ++ info ∷ place.infos_behind) (place.stored_before ++ changed ∷ place.stored_behind) }
-    ensures catalog { (before : List TableInfo) (info : TableInfo) (behind : List TableInfo) (heap : Heap) → AreDistinct (map (λ t. t.number) (before ++ info ∷ behind))
+    ensures added { (ts : List Table) (infos : List TableInfo) (stored : List Stored) (t : Table) (info : TableInfo) (more : Stored) → AreStored ts infos stored → IsStored t info more
+        → AreStored (ts ++ t ∷ []) (infos ++ info ∷ []) (stored ++ more ∷ []) }
+    ensures dropped { (db : Database) (name : List ℕ) (t : Table) (infos : List TableInfo) (stored : List Stored) (place : Place name t db.tables infos stored) → IsValid db → t.name ≡ name
+        → AreStored (without_table db name).tables (place.infos_before ++ place.infos_behind) (place.stored_before ++ place.stored_behind) }
+    ensures heap_set { (before : List TableInfo) (info : TableInfo) (behind : List TableInfo) (heap : Heap) → AreDistinct (map (λ t. t.number) (before ++ info ∷ behind))
         → with_heap info.number heap (before ++ info ∷ behind) ≡ before ++ record info { heap = heap } ∷ behind }
+    ensures taken_out { (before : List TableInfo) (info : TableInfo) (behind : List TableInfo) → AreDistinct (map (λ t. t.number) (before ++ info ∷ behind))
+        → without_info info.number (before ++ info ∷ behind) ≡ before ++ behind }
 {}
 
 /// A map that stands for a database lacks no page below its count.
