@@ -5,13 +5,11 @@ use Rattle.gx_words.specs.PageMap.{PageMap}
 use Rattle.gx_pages.specs.declared.store.Pages.{Ghosts}
 use Rattle.gx_pages.specs.Frees.{IsApart, IsFreeList}
 use Rattle.gx_chain.specs.declared.chain.Chain.{Chain}
-use Rattle.gx_chain.specs.declared.entry.Entry.{Entry}
 use Rattle.gx_chain.specs.Chains.{Link, AreLinked, entries_of, first_of, pages_of}
 use Rattle.gx_heap.specs.declared.heap.Heap.{Heap}
 use Rattle.gx_catalog.specs.declared.info.TableInfo.{TableInfo}
 use Rattle.gx_catalog.specs.declared.info.IndexInfo.{IndexInfo}
-use Rattle.gx_catalog.specs.declared.info.Item.{Item}
-use Rattle.gx_catalog.specs.Items.{item_bytes, tables_in, indexes_in}
+use Rattle.gx_catalog.specs.Items.{Spells}
 use Rattle.gx_catalog.specs.Validity.{AreCatalog}
 
 -- What a catalog in memory is seen as: the chain that it stands on, and the tables and the indexes in the order in which
@@ -22,18 +20,14 @@ pub record Directory : Type 0 where
   pub indexes : List IndexInfo
 
 -- The map stores the catalog with these tables and indexes on these pages in the order of the chain: the chain of kind 3
--- that begins at page 1 spells them, in some order in which the tables follow one another as they do here, and so do the
--- indexes.
+-- that begins at page 1 spells them.
 pub record Stores (pages : PageMap) (count : ℕ) (tables : List TableInfo) (indexes : List IndexInfo) (feet : List ℕ) : Type 0 where
   pub links : List Link
   pub linked : AreLinked pages 3 links
   pub first : first_of links ≡ 1
   pub below : AllByRecursion (λ page. page < count) feet
   pub stand : feet ≡ pages_of links
-  pub items : List Item
-  pub spelled : map (λ (entry : Entry). entry.item) (entries_of links) ≡ map item_bytes items
-  pub in_tables : tables ≡ tables_in items
-  pub in_indexes : indexes ≡ indexes_in items
+  pub spelled : Spells (entries_of links) tables indexes
   pub valid : AreCatalog tables indexes
 
 -- the map stores no catalog

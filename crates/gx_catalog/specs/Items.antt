@@ -1,6 +1,6 @@
 -- The items of the catalog's chain, and their bytes.
-use Rattle.std.specs.Prelude.{◌≡◌, ◌≢◌, ℕ, ◌^◌, ◌<◌, List, [], ◌∷◌, ◌++◌, length}
-use Rattle.std.specs.List.{flat_map}
+use Rattle.std.specs.Prelude.{◌≡◌, ◌≢◌, ℕ, ◌^◌, ◌<◌, List, [], ◌∷◌, ◌++◌, length, map}
+use Rattle.std.specs.List.{AllByRecursion, flat_map}
 use Rattle.gx_bytes.specs.Fields.{le16, le32, le64}
 use Rattle.gx_bytes.specs.Varints.{field_bytes}
 use Rattle.gx_value.specs.Classes.{class_number}
@@ -8,6 +8,7 @@ use Rattle.gx_value.specs.declared.classes.Class.{Class}
 use Rattle.gx_value.specs.Types.{type_number}
 use Rattle.gx_value.specs.declared.fields.Column.{Column}
 use Rattle.gx_heap.specs.declared.heap.Heap.{Heap}
+use Rattle.gx_chain.specs.declared.entry.Entry.{Entry}
 use Rattle.gx_catalog.specs.declared.info.TableInfo.{TableInfo}
 use Rattle.gx_catalog.specs.declared.info.IndexInfo.{IndexInfo}
 use Rattle.gx_catalog.specs.declared.info.Item.{Item}
@@ -107,3 +108,19 @@ FitsClass part = part.2 < 2 ^ 16
 -- any value
 abbrev pub Any : {T : Type 0} → T → Type 0
 Any value = Unit {0}
+
+abbrev pub bytes_of : List Entry → List (List ℕ)
+bytes_of entries = map (λ (entry : Entry). entry.item) entries
+
+-- The entries of a chain spell these tables and indexes: each is the item of one, whose numbers fit their fields, and the
+-- tables follow one another as they do here, and so do the indexes.
+pub record Spells (entries : List Entry) (tables : List TableInfo) (indexes : List IndexInfo) : Type 0 where
+  pub items : List Item
+  pub fit : AllByRecursion FitsItem items
+  pub spelled : bytes_of entries ≡ map item_bytes items
+  pub in_tables : tables ≡ tables_in items
+  pub in_indexes : indexes ≡ indexes_in items
+
+-- some entry is no item
+abbrev pub SpellsNone : List Entry → Type 0
+SpellsNone entries = (tables : List TableInfo) (indexes : List IndexInfo) → Spells entries tables indexes → ⊥

@@ -1,3 +1,4 @@
 pub mod Items
 pub mod Validity
+pub mod Tails
 pub mod Catalogs

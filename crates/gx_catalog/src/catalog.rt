@@ -1,22 +1,33 @@
 //! The tables and the indexes of a database.
 
-ghost use Rattle.std.specs.Prelude.{◌≡◌, ◌≢◌, ◌↔◌, IsTrue, ℕ, ◌+◌, ◌^◌, ◌<◌, ◌≤◌, List, [], ◌∷◌, ◌++◌, IfOk, IfErr, IfSome, IfNone, OnOk, OnErr};
-ghost use Rattle.std.specs.List.{AllByRecursion};
+ghost use Rattle.std.specs.Prelude.{◌≡◌, ℕ, ◌+◌, ◌<◌, ◌≤◌, List, [], ◌∷◌, ◌++◌, None, IfOk, IfErr, OnOk, OnErr};
+ghost use Rattle.std.specs.Option.{option_copied};
 ghost use Rattle.gx_pages.specs.Footprints.{KeepsPages, StaysQuiet};
 ghost use Rattle.gx_pages.specs.Frees.{IsApart, IsFreeList, IsFull};
 ghost use Rattle.gx_pages.specs.Pages.{HasCause};
+ghost use Rattle.gx_slot.specs.Slots.{IsBroken};
 ghost use Rattle.gx_chain.specs.Chains.{IsSound};
-ghost use Rattle.gx_catalog.specs.Validity.{AreCatalog, HasIndex, HasNoIndex, HasNumber, IsAmong, IsHeap};
+ghost use Rattle.gx_catalog.specs.Validity.{AreCatalog, HasIndex, HasNoIndex, HasNumber, IsHeap, index_named, table_named, table_numbered};
 ghost use Rattle.gx_catalog.specs.Catalogs.{HoldsCatalog, HoldsNoCatalog, Stores, StoresNone, chain_on, with_heap, with_nulls, without_index, without_table};
 ghost use Rattle.gx_catalog.specs.declared.info.TableInfo.{TableInfo};
 ghost use Rattle.gx_catalog.specs.declared.info.IndexInfo.{IndexInfo};
 
 use crate::info::{IndexInfo, TableInfo};
+use crate::lists::lists_of;
+use crate::lookup::{index_named, table_named, table_numbered};
+use crate::validity::are_catalog;
+use crate::writing::{index_item, table_item};
 use gx_chain::Chain;
 use gx_heap::Heap;
 use gx_pages::{PageError, Pages};
 use std::alloc::Global;
 use std::marker::Model;
+
+/// The kind of a catalog page.
+const CATALOG: u8 = 3;
+
+/// The first page of a catalog.
+const FIRST: u64 = 1;
 
 /// The tables and the indexes of a database, each in the order in which they were made, and the chain of pages that they
 /// stand on.
@@ -55,9 +66,21 @@ impl Catalog {
         ensures heap { IsSound result → P.heap_fetches pages.new ≡ P.heap_fetches pages.old }
         ensures quiet { StaysQuiet P.Pages pages.old pages.new }
     {
-        let _alloc = alloc;
-        let _pages = pages;
-        Err(PageError::Memory)
+        let (chain, _feet, entries) = Chain::open(alloc, pages, CATALOG, FIRST)?;
+        let Ok(lists) = lists_of(alloc, entries.as_slice()) else {
+            return Err(PageError::Memory);
+        };
+        let Some((tables, indexes)) = lists else {
+            return Err(no_catalog());
+        };
+        if !are_catalog(tables.as_slice(), indexes.as_slice()) {
+            return Err(no_catalog());
+        }
+        Ok(Catalog {
+            chain,
+            tables,
+            indexes,
+        })
     }
 
     /// The tables in the order in which they were made.
@@ -96,10 +119,19 @@ impl Catalog {
         ensures heap { IsSound result → P.heap_fetches pages.new ≡ P.heap_fetches pages.old }
         ensures quiet { StaysQuiet P.Pages pages.old pages.new }
     {
-        let _alloc = alloc;
-        let _pages = pages;
-        let _table = table;
-        Err(PageError::Memory)
+        let Ok(item) = table_item(alloc, &table, &table.heap) else {
+            return Err(PageError::Memory);
+        };
+        let Ok(()) = self.tables.reserve(1) else {
+            return Err(PageError::Memory);
+        };
+        let mut chain = self.chain;
+        chain.append(pages, CATALOG, item.as_slice())?;
+        let Ok(()) = self.tables.push(table) else {
+            unreachable!();
+        };
+        self.chain = chain;
+        Ok(())
     }
 
     /// Adds an index behind all others.
@@ -122,10 +154,19 @@ impl Catalog {
         ensures heap { IsSound result → P.heap_fetches pages.new ≡ P.heap_fetches pages.old }
         ensures quiet { StaysQuiet P.Pages pages.old pages.new }
     {
-        let _alloc = alloc;
-        let _pages = pages;
-        let _index = index;
-        Err(PageError::Memory)
+        let Ok(item) = index_item(alloc, &index, index.nulls) else {
+            return Err(PageError::Memory);
+        };
+        let Ok(()) = self.indexes.reserve(1) else {
+            return Err(PageError::Memory);
+        };
+        let mut chain = self.chain;
+        chain.append(pages, CATALOG, item.as_slice())?;
+        let Ok(()) = self.indexes.push(index) else {
+            unreachable!();
+        };
+        self.chain = chain;
+        Ok(())
     }
 
     /// Gives the table of this number another heap. It keeps its place.
@@ -236,51 +277,34 @@ impl Catalog {
 
     /// The table of this name.
     pub fn table(&self, name: &[u8]) -> Option<&TableInfo>
-        ensures some { IfSome result (λ t. IsAmong t.now self.now.tables × (t.now.name ≡ name.now)) }
-        ensures none { IfNone result (AllByRecursion (λ t. t.name ≢ name.now) self.now.tables) }
+        ensures { option_copied result ≡ table_named name.now self.now.tables }
     {
-        for table in &self.tables {
-            if are_equal(table.name.as_slice(), name) {
-                return Some(table);
-            }
-        }
-        None
+        table_named(self.tables.as_slice(), name)
     }
 
     /// The table of this number.
     pub fn table_numbered(&self, number: u32) -> Option<&TableInfo>
-        ensures some { IfSome result (λ t. IsAmong t.now self.now.tables × (t.now.number ≡ number)) }
-        ensures none { IfNone result (AllByRecursion (λ t. t.number ≢ number) self.now.tables) }
+        ensures { option_copied result ≡ table_numbered number self.now.tables }
     {
-        for table in &self.tables {
-            if table.number == number {
-                return Some(table);
-            }
-        }
-        None
+        table_numbered(self.tables.as_slice(), number)
     }
 
     /// The index of this name.
     pub fn index(&self, name: &[u8]) -> Option<&IndexInfo>
-        ensures some { IfSome result (λ i. IsAmong i.now self.now.indexes × (i.now.name ≡ name.now)) }
-        ensures none { IfNone result (AllByRecursion (λ i. i.name ≢ name.now) self.now.indexes) }
+        ensures { option_copied result ≡ index_named name.now self.now.indexes }
     {
-        for index in &self.indexes {
-            if are_equal(index.name.as_slice(), name) {
-                return Some(index);
-            }
-        }
-        None
+        index_named(self.indexes.as_slice(), name)
     }
 
     /// The least number from 1 that no table has.
     pub fn free_number(&self) -> u32
         ensures some { 0 < result }
-        ensures free { AllByRecursion (λ t. t.number ≢ result) self.now.tables }
+        ensures free { table_numbered result self.now.tables ≡ None }
         ensures least { (number : ℕ) → 0 < number → number < result → HasNumber number self.now.tables }
     {
-        for number in 1..u32::MAX {
-            if self.table_numbered(number).is_none() {
+        let tables = self.tables.as_slice();
+        for number in 1..258 {
+            if table_numbered(tables, number).is_none() {
                 return number;
             }
         }
@@ -288,8 +312,13 @@ impl Catalog {
     }
 }
 
-fn are_equal(one: &[u8], other: &[u8]) -> bool
-    ensures { IsTrue result ↔ (one.now ≡ other.now) }
+// The pages hold no catalog of a database.
+fn no_catalog() -> PageError
+    ensures { IsBroken 1 result }
 {
-    one == other
+    PageError::Broken {
+        page: FIRST,
+        expected: 1,
+        found: 0,
+    }
 }

@@ -3,7 +3,10 @@
 
 mod catalog;
 mod info;
+mod lists;
+mod lookup;
 mod reading;
+mod validity;
 mod writing;
 
 pub use catalog::Catalog;

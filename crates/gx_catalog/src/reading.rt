@@ -143,7 +143,10 @@ fn take_columns(alloc: Global, bytes: &[u8]) -> Result<Option<(Columns, &[u8])>,
     let Some((count, rest)) = bytes.split_first() else {
         return Ok(None);
     };
-    take_each(alloc, *count, rest)
+    match take_each(alloc, *count, rest)? {
+        Some((columns, behind)) => Ok(Some((columns, behind))),
+        None => Ok(None),
+    }
 }
 
 // So many columns at the front, and what stands behind them.

@@ -3,7 +3,7 @@
 ghost use Rattle.std.specs.Prelude.{◌≡◌, ℕ, ◌<◌, ◌++◌, length, IfOk, OnOk};
 ghost use Rattle.std.specs.List.{flat_map};
 ghost use Rattle.gx_bytes.specs.Fields.{le16, le32, le64};
-ghost use Rattle.gx_catalog.specs.Items.{class_bytes, column_bytes, columns_bytes, heap_bytes, index_bytes, table_bytes};
+ghost use Rattle.gx_catalog.specs.Items.{FitsHeap, FitsIndex, FitsTable, class_bytes, column_bytes, columns_bytes, heap_bytes, index_bytes, table_bytes};
 
 use crate::info::{IndexInfo, TableInfo};
 use gx_bytes::{Bytes, NoMemory, push_field};
@@ -11,40 +11,48 @@ use gx_heap::Heap;
 use gx_value::{Class, Column};
 use std::alloc::Global;
 
-/// The bytes of a table's item.
-pub fn table_item(alloc: Global, table: &TableInfo) -> Result<Bytes, NoMemory>
+/// The bytes of a table's item, with this heap in place of its own.
+pub fn table_item(alloc: Global, table: &TableInfo, heap: &Heap) -> Result<Bytes, NoMemory>
     requires { length table.now.columns < 256 }
-    ensures { IfOk result (λ item. item ≡ table_bytes table.now) }
+    ensures bytes { IfOk result (λ item. item ≡ table_bytes (record table.now { heap = heap.now })) }
+    ensures fits { OnOk result (FitsTable (record table.now { heap = heap.now })) }
 {
     let mut item = Bytes::new(alloc);
     item.push(1)?;
-    push_u32(&mut item, table.number)?;
-    push_heap(&mut item, &table.heap)?;
+    let number = table.number;
+    push_u32(&mut item, number)?;
+    push_heap(&mut item, heap)?;
     push_columns(&mut item, table.columns.as_slice())?;
     push_field(&mut item, table.name.as_slice())?;
     Ok(item)
 }
 
-/// The bytes of an index's item.
-pub fn index_item(alloc: Global, index: &IndexInfo) -> Result<Bytes, NoMemory>
-    ensures { IfOk result (λ item. item ≡ index_bytes index.now) }
+/// The bytes of an index's item, with this root of its NULL rows in place of its own.
+pub fn index_item(alloc: Global, index: &IndexInfo, nulls: u64) -> Result<Bytes, NoMemory>
+    ensures bytes { IfOk result (λ item. item ≡ index_bytes (record index.now { nulls = nulls })) }
+    ensures fits { OnOk result (FitsIndex (record index.now { nulls = nulls })) }
 {
     let mut item = Bytes::new(alloc);
     item.push(3)?;
-    push_u32(&mut item, index.table)?;
-    push_class(&mut item, index.column, index.class, index.parameter)?;
-    push_u64(&mut item, index.root)?;
-    push_u64(&mut item, index.nulls)?;
+    let table = index.table;
+    let parameter = index.parameter;
+    let root = index.root;
+    push_u32(&mut item, table)?;
+    push_class(&mut item, index.column, index.class, parameter)?;
+    push_u64(&mut item, root)?;
+    push_u64(&mut item, nulls)?;
     push_field(&mut item, index.name.as_slice())?;
     Ok(item)
 }
 
 fn push_heap(to: &mut Bytes, heap: &Heap) -> Result<(), NoMemory>
-    ensures { OnOk result (to.new ≡ to.old ++ heap_bytes heap.now) }
+    ensures bytes { OnOk result (to.new ≡ to.old ++ heap_bytes heap.now) }
+    ensures fits { OnOk result (FitsHeap heap.now) }
 {
-    push_u64(to, heap.next)?;
-    push_u64(to, heap.first)?;
-    push_u64(to, heap.last)?;
+    let Heap { first, last, next } = *heap;
+    push_u64(to, next)?;
+    push_u64(to, first)?;
+    push_u64(to, last)?;
     Ok(())
 }
 

@@ -32,6 +32,7 @@ fn a_chain_grows(rt: HostRuntime) -> Result<(), Fail> {
     }
     let (opened, feet, entries) = Chain::open(alloc, &mut pages, 3, 2)?;
     assert_eq!(rt; (opened.first, opened.last, opened.pages), (2, 4, 3));
+    assert_eq!(rt; feet.as_slice(), [2, 3, 4].as_slice());
     assert_eq!(rt; entries.len(), places.len());
     for (entry, place) in entries.iter().zip(places.iter()) {
         assert_eq!(rt; (entry.item.len(), entry.page, entry.slot), *place);
