@@ -1,14 +1,13 @@
 -- A change of one part of a map leaves the others.
-use Rattle.std.proofs.Common.{◌≡◌, ◌≢◌, ℕ, ◌+◌, ◌-◌, ◌<◌, ◌≤◌, List, [], ◌∷◌, ◌++◌, length, map, Option, Some, None, refl, sym, ◌∙◌, ap, subst, arith}
+use Rattle.std.proofs.Common.{◌≡◌, ◌≢◌, ℕ, ◌+◌, ◌-◌, ◌<◌, ◌≤◌, List, [], ◌∷◌, ◌++◌, map, sym, ◌∙◌, ap, subst, arith}
 use Rattle.std.specs.List.{AllByRecursion, range_with_len}
 use Rattle.std.specs.List.Sorted.{IsPermutation}
 use Rattle.gx_words.specs.PageMap.{PageMap}
 use Rattle.gx_pages.specs.declared.store.Pages.{Ghosts}
 use Rattle.gx_pages.specs.Footprints.{IsOutside, KeepsPages, grown}
-use Rattle.gx_pages.proofs.Footprints.{hit, times, times-append, times-permutation, none_outside, outside_none, apart_once, once_apart, all_weaker}
-use Rattle.gx_chain.specs.Chains.{Link, Holds, pages_of}
+use Rattle.gx_pages.proofs.Footprints.{hit, times, times-append, times-permutation, none_outside, all_weaker}
+use Rattle.gx_chain.specs.Chains.{pages_of}
 use Rattle.gx_chain.proofs.Links.{linked_stays}
-use Rattle.gx_heap.specs.Heaps.{chain_of}
 use Rattle.gx_catalog.specs.Catalogs.{Stores}
 use Rattle.gx_catalog.specs.declared.info.TableInfo.{TableInfo}
 use Rattle.gx_database.specs.Heaps.{Stored, StoresHeap}
@@ -25,10 +24,7 @@ catalog_stays old new count later tables feet more same s = record {
   first = s.first;
   below = all_weaker (λ (page : ℕ). page < count) (λ (page : ℕ). page < later) feet (λ page here. omega arith) s.below;
   stand = s.stand;
-  items = s.items;
   spelled = s.spelled;
-  in_tables = s.in_tables;
-  in_indexes = s.in_indexes;
   valid = s.valid;
 }
 

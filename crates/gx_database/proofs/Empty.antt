@@ -1,16 +1,15 @@
 -- The pages of an empty database stand for it.
-use Rattle.std.proofs.Common.{◌≡◌, ℕ, ◌+◌, ◌-◌, ◌^◌, ◌<◌, ◌≤◌, List, [], ◌∷◌, ◌++◌, length, take, drop, replicate, Option, Some, None, refl, sym, ◌∙◌, ap, append-nil, arith}
+use Rattle.std.proofs.Common.{◌≡◌, ℕ, ◌+◌, ◌-◌, ◌^◌, ◌<◌, ◌≤◌, List, [], ◌∷◌, ◌++◌, take, drop, replicate, Some, refl, sym, ◌∙◌, ap, append-nil, arith}
 use Rattle.std.proofs.lemmas.List.Sorted.{IsPermutation-refl}
 use Rattle.gx_bytes.specs.Fields.{le16, le32, le64}
 use Rattle.gx_pages.specs.Databases.{header_of, catalog_page, empty_pages}
 use Rattle.gx_pages.specs.Frees.{HasCount}
 use Rattle.gx_pages.proofs.Emptiness.{empty_header, empty_catalog, empty_above, none_free}
-use Rattle.gx_slot.specs.Slots.{Fits, spelling, taken}
-use Rattle.gx_chain.specs.Chains.{Link, IsLink, slots}
+use Rattle.gx_slot.specs.Slots.{spelling, taken}
+use Rattle.gx_chain.specs.Chains.{IsLink, slots}
 use Rattle.gx_catalog.specs.Catalogs.{Stores}
 use Rattle.gx_catalog.specs.Validity.{AreCatalog}
-use Rattle.gx_model.specs.Database.{Database, IsValid, empty, most_tables, most_indexes}
-use Rattle.gx_database.specs.Parts.{HasParts}
+use Rattle.gx_model.specs.Database.{IsValid, empty, most_tables, most_indexes}
 use Rattle.gx_database.specs.Standing.{HasHeader, StandsFor}
 
 empty_page : catalog_page ≡ spelling (slots 3 0 [])
@@ -56,10 +55,7 @@ empty_stored =
       first = refl;
       below = (below, tt);
       stand = refl;
-      items = [];
-      spelled = refl;
-      in_tables = refl;
-      in_indexes = refl;
+      spelled = record { items = []; fit = tt; spelled = refl; in_tables = refl; in_indexes = refl };
       valid = empty_catalog_valid;
     }
 

@@ -9,7 +9,7 @@ use Rattle.gx_heap.specs.declared.heap.Heap.{Heap}
 use Rattle.gx_catalog.specs.Catalogs.{with_heap, without_table as without_info}
 use Rattle.gx_catalog.specs.Validity as catalogs
 use Rattle.gx_catalog.specs.declared.info.TableInfo.{TableInfo}
-use Rattle.gx_model.specs.Database.{Database, Table, AreDistinct, is_table, table_named, with_table, without_table}
+use Rattle.gx_model.specs.Database.{Database, Table, AreDistinct, is_table, with_table, without_table}
 use Rattle.gx_database.specs.Heaps.{Stored}
 use Rattle.gx_database.specs.Standing.{IsStored, AreStored}
 use Rattle.gx_database.specs.Places.{Place}
@@ -164,12 +164,12 @@ other_number number heap t n = ⊎_elim (λ same. absurd (n same.1)) (λ other. 
 same_number : (heap : Heap) (t : TableInfo) → heap_at t.number heap t ≡ record t { heap = heap }
 same_number heap t = ⊎_elim (λ same. rw (same.0) refl) (λ other. absurd (other.1 refl)) (eqb_tells t.number t.number)
 
-heaps_behind : (number : ℕ) (heap : Heap) (ts : List TableInfo) → AllByRecursion (λ n. number ≢ n) (map (λ t. t.number) ts) → map (heap_at number heap) ts ≡ ts
+heaps_behind : (number : ℕ) (heap : Heap) (ts : List TableInfo) → AllByRecursion (λ n. n ≢ number) (map (λ t. t.number) ts) → map (heap_at number heap) ts ≡ ts
 heaps_behind number heap [] h = refl
-heaps_behind number heap (t ∷ ts) h = same_pair (heap_at number heap t) t (map (heap_at number heap) ts) ts (other_number number heap t (λ e. h.0 (sym e))) (heaps_behind number heap ts h.1)
+heaps_behind number heap (t ∷ ts) h = same_pair (heap_at number heap t) t (map (heap_at number heap) ts) ts (other_number number heap t h.0) (heaps_behind number heap ts h.1)
 
-number_apart : (n : ℕ) (before : List TableInfo) (i : TableInfo) (behind : List TableInfo) → AllByRecursion (λ m. n ≢ m) (map (λ t. t.number) (before ++ i ∷ behind)) → n ≢ i.number
-number_apart n [] i behind h = h.0
+number_apart : (n : ℕ) (before : List TableInfo) (i : TableInfo) (behind : List TableInfo) → AllByRecursion (λ m. m ≢ n) (map (λ t. t.number) (before ++ i ∷ behind)) → n ≢ i.number
+number_apart n [] i behind h = λ e. h.0 (sym e)
 number_apart n (t ∷ before) i behind h = number_apart n before i behind h.1
 
 pub with_heap_mid : (before : List TableInfo) (i : TableInfo) (behind : List TableInfo) (heap : Heap) → catalogs.AreDistinct (map (λ t. t.number) (before ++ i ∷ behind))
@@ -246,9 +246,9 @@ stays_other number t rest more n e =
 goes_same : (t : TableInfo) (rest more : List TableInfo) → rest ≡ more → cond (stays_in t.number t) (t ∷ rest) rest ≡ more
 goes_same t rest more e = ⊎_elim (λ same. rw (same.0) e) (λ other. absurd (other.1 refl)) (eqb_tells t.number t.number)
 
-others_stay : (number : ℕ) (ts : List TableInfo) → AllByRecursion (λ n. number ≢ n) (map (λ t. t.number) ts) → filter (stays_in number) ts ≡ ts
+others_stay : (number : ℕ) (ts : List TableInfo) → AllByRecursion (λ n. n ≢ number) (map (λ t. t.number) ts) → filter (stays_in number) ts ≡ ts
 others_stay number [] h = refl
-others_stay number (t ∷ ts) h = stays_other number t (filter (stays_in number) ts) ts (λ e. h.0 (sym e)) (others_stay number ts h.1)
+others_stay number (t ∷ ts) h = stays_other number t (filter (stays_in number) ts) ts h.0 (others_stay number ts h.1)
 
 pub without_mid : (before : List TableInfo) (i : TableInfo) (behind : List TableInfo) → catalogs.AreDistinct (map (λ t. t.number) (before ++ i ∷ behind))
     → without_info i.number (before ++ i ∷ behind) ≡ before ++ behind

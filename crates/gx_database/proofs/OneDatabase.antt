@@ -13,7 +13,6 @@ use Rattle.gx_value.specs.Rows.{SpellsRow}
 use Rattle.gx_value.specs.Values.{Datum}
 use Rattle.gx_model.specs.Database.{Database, Table, Row, Index}
 use Rattle.gx_database.specs.Heaps.{Stored, StoresHeap}
-use Rattle.gx_database.specs.Parts.{HasParts}
 use Rattle.gx_database.specs.Standing.{SpellsStored, IsStored, AreStored, StandsFor}
 
 abbrev pub OneRow : Type 0

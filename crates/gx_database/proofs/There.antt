@@ -1,5 +1,5 @@
 -- No page below the count is lacking.
-use Rattle.std.proofs.Common.{◌≡◌, ℕ, ◌+◌, ◌<◌, ◌≤◌, zero, suc, List, [], ◌∷◌, ◌++◌, Option, Some, None, refl, sym, ap, subst, arith, ⊎_elim, eqb}
+use Rattle.std.proofs.Common.{◌≡◌, ℕ, ◌+◌, ◌<◌, ◌≤◌, zero, suc, List, [], ◌∷◌, ◌++◌, Option, Some, refl, sym, subst, arith, ⊎_elim}
 use Rattle.std.specs.Prelude.{IsSome}
 use Rattle.std.specs.List.{AllByRecursion, range_with_len}
 use Rattle.std.proofs.lemmas.Bool.Decides.{eqb_tells}
@@ -9,7 +9,7 @@ use Rattle.gx_pages.proofs.Footprints.{hit, times, hit_none, times_one, times-pe
 use Rattle.gx_chain.specs.Chains.{Link, AreLinkedTo, pages_of}
 use Rattle.gx_model.specs.Database.{Database}
 use Rattle.gx_database.specs.Heaps.{Stored, StoresHeap}
-use Rattle.gx_database.specs.Parts.{feet_of, HasParts}
+use Rattle.gx_database.specs.Parts.{feet_of}
 use Rattle.gx_database.specs.Standing.{StandsFor}
 
 is_some : {A : Type 0} (o : Option A) (x : A) → o ≡ Some x → IsSome o

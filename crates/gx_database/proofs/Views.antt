@@ -1,16 +1,16 @@
 -- The parts of a map as the structures that an object of pages holds.
-use Rattle.std.proofs.Common.{◌≡◌, ◌≢◌, ℕ, ◌+◌, ◌^◌, ◌<◌, ◌≤◌, List, [], ◌∷◌, ◌++◌, Option, Some, None, refl, sym, ◌∙◌, ap, subst, arith}
+use Rattle.std.proofs.Common.{◌≡◌, ◌≢◌, ℕ, ◌+◌, ◌^◌, ◌<◌, ◌≤◌, List, [], ◌∷◌, ◌++◌, Option, sym, ◌∙◌, subst, arith}
 use Rattle.std.specs.Prelude.{IfSome}
-use Rattle.std.specs.List.{AllByRecursion, range_with_len}
+use Rattle.std.specs.List.{AllByRecursion}
 use Rattle.gx_bytes.specs.Fields.{le64-same}
 use Rattle.gx_words.specs.PageMap.{PageMap}
 use Rattle.gx_pages.specs.declared.store.Pages.{Ghosts}
 use Rattle.gx_pages.specs.Frees.{IsApart, HasCount, KeepsHeader}
-use Rattle.gx_pages.proofs.Footprints.{hit, times, times-append, times-permutation, once_apart}
-use Rattle.gx_chain.specs.Chains.{pages_of}
+use Rattle.gx_pages.proofs.Footprints.{times-append, once_apart}
 use Rattle.gx_heap.specs.declared.heap.Heap.{Heap}
 use Rattle.gx_heap.specs.Heaps.{Row, HoldsHeap}
-use Rattle.gx_catalog.specs.Catalogs.{Directory, HoldsCatalog, chain_on}
+use Rattle.gx_catalog.specs.Catalogs.{Directory, HoldsCatalog, Stores, chain_on}
+use Rattle.gx_catalog.specs.declared.info.IndexInfo.{IndexInfo}
 use Rattle.gx_catalog.specs.declared.info.TableInfo.{TableInfo}
 use Rattle.gx_database.specs.Heaps.{Stored, StoresHeap}
 use Rattle.gx_database.specs.Parts.{feet_of, HasParts}
@@ -21,20 +21,9 @@ use Rattle.gx_database.proofs.Times.{times_feet}
 pub catalog_held : {P : Type 0} (g : Ghosts P) (pages : P) (catalog : Directory) (tables : List TableInfo) (feet : List ℕ) (heaps : List Stored) (free : List ℕ)
     → HasParts (g.map pages) (g.count pages) tables feet heaps free → catalog.tables ≡ tables → catalog.indexes ≡ [] → catalog.chain ≡ chain_on feet → HoldsCatalog g pages catalog feet free
 catalog_held g pages catalog tables feet heaps free parts t i c =
-    let s = parts.catalog in
+    let first : Stores (g.map pages) (g.count pages) catalog.tables [] feet = subst (λ (ts : List TableInfo). Stores (g.map pages) (g.count pages) ts [] feet) (sym t) parts.catalog in
     record {
-      stored = record {
-        links = s.links;
-        linked = s.linked;
-        first = s.first;
-        below = s.below;
-        stand = s.stand;
-        items = s.items;
-        spelled = s.spelled;
-        in_tables = t ∙ s.in_tables;
-        in_indexes = i ∙ s.in_indexes;
-        valid = rw (t, i) s.valid;
-      };
+      stored = subst (λ (is : List IndexInfo). Stores (g.map pages) (g.count pages) catalog.tables is feet) (sym i) first;
       chain = c;
       frees = parts.frees;
       apart = once_apart (feet ++ free) (λ n.

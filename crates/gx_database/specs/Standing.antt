@@ -1,5 +1,5 @@
 -- A map of pages stands for a database.
-use Rattle.std.specs.Prelude.{◌≡◌, ℕ, ◌+◌, ◌^◌, ◌≤◌, List, [], ◌∷◌, ◌++◌, map, take, drop, replicate, Option, Some, None}
+use Rattle.std.specs.Prelude.{◌≡◌, ℕ, ◌+◌, ◌^◌, ◌≤◌, List, [], ◌∷◌, ◌++◌, map, take, drop, replicate, Some, None}
 use Rattle.std.specs.List.{AllZip}
 use Rattle.gx_bytes.specs.Fields.{le32, le64}
 use Rattle.gx_words.specs.PageMap.{PageMap}

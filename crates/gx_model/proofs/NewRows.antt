@@ -1,17 +1,15 @@
 -- The rows that an INSERT adds are rows of the table.
-use Rattle.std.proofs.Common.{◌≡◌, ◌⊎◌, inl, inr, ℕ, suc, ◌+◌, ◌^◌, ◌≤◌, ◌<◌, nat_le, Bool, true, false, cond, List, [], ◌∷◌, ◌++◌, length, map, Option, Some, None, refl, sym, ◌∙◌, ap, subst, arith}
-use Rattle.std.specs.Prelude.{find}
-use Rattle.std.specs.List.{AllByRecursion, AllZip, filter_map, list_any}
+use Rattle.std.proofs.Common.{◌≡◌, ◌⊎◌, inl, inr, ℕ, suc, ◌+◌, ◌^◌, ◌≤◌, ◌<◌, nat_le, Bool, true, false, cond, List, [], ◌∷◌, ◌++◌, length, map, Option, Some, None, refl, sym, ◌∙◌, subst, arith}
+use Rattle.std.specs.List.{AllByRecursion, filter_map, list_any}
 use Rattle.std.specs.Str.{bytes_eq}
 use Rattle.std.proofs.lemmas.Bool.Decides.{nat_tests}
 use Rattle.std.proofs.lemmas.Slice.Eq.{bytes_eq-Decides}
 use Rattle.gx_value.specs.declared.fields.Column.{Column}
-use Rattle.gx_value.specs.declared.types.ColumnType.{ColumnType}
 use Rattle.gx_value.specs.Rows.{IsRowBytes}
 use Rattle.gx_value.specs.Values.{Datum, IsField, IsRow}
 use Rattle.gx_parse.specs.declared.statement.Given.{Given}
 use Rattle.gx_model.specs.Checks.{Check, Passes, Find, fault_where, fits}
-use Rattle.gx_model.specs.Database.{Row, IsRowOf, Rises, AreDistinct, is_column, column_named, numbered, end_of_numbers}
+use Rattle.gx_model.specs.Database.{IsRowOf, Rises, AreDistinct, is_column, column_named, numbered, end_of_numbers}
 use Rattle.gx_model.specs.Faults.{rows_checks, values_checks}
 use Rattle.gx_model.specs.Values.{named, value_for, fields_of, ReadsValues, ReadsRow, ReadsRows}
 use Rattle.gx_model.proofs.Lists.{any_parts, same_bytes}

@@ -1,15 +1,15 @@
 -- A piece has one cost in a session.
-use Rattle.std.proofs.Common.{◌≡◌, ◌⊎◌, inl, inr, ℕ, ◌+◌, ◌*◌, List, Option, Some, None, refl, sym, ◌∙◌, ap, subst}
+use Rattle.std.proofs.Common.{◌≡◌, ◌⊎◌, inl, inr, ℕ, ◌+◌, ◌*◌, List, Option, Some, None, sym, ◌∙◌, ap, subst}
 use Rattle.gx_parse.specs.Answers.{Answer, says, wrong_at, too_deep}
-use Rattle.gx_parse.specs.Said.{Said, Query, Nothing, CreateTable, DropTable, CreateIndex, DropIndex, Insert, Delete, Select, Explain, Vacuum, Checkpoint, Begin, Commit, Rollback}
+use Rattle.gx_parse.specs.Said.{Said, DropTable, CreateIndex, Insert, Delete, Select, Explain, Vacuum}
 use Rattle.gx_parse.specs.Trees.{Tree}
 use Rattle.gx_model.specs.Checks.{Check, Find}
-use Rattle.gx_model.specs.Database.{Database, Table, Row, table_named}
+use Rattle.gx_model.specs.Database.{Database, Table, table_named}
 use Rattle.gx_model.specs.Faults.{checks}
 use Rattle.gx_model.specs.Plans.{Plan, Whole, One, Both, Either, FindsFor, plan_where}
 use Rattle.gx_model.specs.Steps.{QueryCosts, CostsTwice, CostsOf, Costs}
 use Rattle.gx_model.specs.Truth.{Bound}
-use Rattle.gx_model.specs.Turns.{Session, Block, idle, begun, failed, CostsRefused, CostsBegun, CostsIn, CostsRead, CostsBy, TurnCosts, reading_of}
+use Rattle.gx_model.specs.Turns.{Session, Block, idle, begun, failed, CostsRefused, CostsBegun, CostsIn, CostsBy, TurnCosts, reading_of}
 use Rattle.gx_model.proofs.OneTurn.{Facts, found_both, one_where}
 use Rattle.gx_model.proofs.Tables.{there, of_some}
 

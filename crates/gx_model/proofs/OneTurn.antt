@@ -9,11 +9,10 @@ use Rattle.gx_value.specs.declared.types.OperandType.{OperandType}
 use Rattle.gx_value.specs.declared.classes.Class.{Class}
 use Rattle.gx_value.specs.Rows.{IsRowBytes, row_limit}
 use Rattle.gx_value.specs.Values.{Datum}
-use Rattle.gx_opr.specs.Operands.{Right}
 use Rattle.gx_parse.specs.Answers.{Answer, says, wrong_at, too_deep}
 use Rattle.gx_parse.specs.declared.statement.Given.{Given}
 use Rattle.gx_parse.specs.declared.statement.Parameter.{Parameter}
-use Rattle.gx_parse.specs.Said.{Said, Query, Nothing, CreateTable, DropTable, CreateIndex, DropIndex, Insert, Delete, Select, Explain, Vacuum, Checkpoint, Begin, Commit, Rollback}
+use Rattle.gx_parse.specs.Said.{Said, Nothing, CreateTable, DropTable, CreateIndex, DropIndex, Insert, Delete, Select, Explain, Vacuum, Checkpoint, Begin, Commit, Rollback}
 use Rattle.gx_parse.specs.Trees as trees
 use Rattle.gx_model.specs.Checks.{Check, fault_where, is_value, is_operand, fits, Passes, Fails, Find}
 use Rattle.gx_model.specs.Conditions.{Binds, BindsWhere, BindsAtom, BindsLiteral, operand_type}
@@ -24,9 +23,9 @@ use Rattle.gx_model.specs.Plans.{Plan, Whole, One, Both, Either, Finds, plan_whe
 use Rattle.gx_model.specs.Replies.{accepted}
 use Rattle.gx_model.specs.Steps.{Stepped, Steps, Does, Inserts, Deletes, Selects, Explains, IsNewIndex, done, others, selected, selection, explanation, growth_of}
 use Rattle.gx_model.specs.Truth.{Bound, And, Or, Not, Atom, IsNull, Operand}
-use Rattle.gx_model.specs.Turns.{Session, Block, idle, begun, failed, Turned, Turns, TurnsSeen, TurnsIdle, TurnsBegun, TurnsFailed, TurnsIn, TurnsSaid, TurnsRead, TurnsBy, reading_of, seen, refused, with_seen}
+use Rattle.gx_model.specs.Turns.{Session, Block, idle, begun, failed, Turned, Turns, TurnsSeen, TurnsIdle, TurnsBegun, TurnsFailed, TurnsIn, TurnsSaid, TurnsBy, reading_of, seen, refused, with_seen}
 use Rattle.gx_model.specs.Replies.{refusal}
-use Rattle.gx_model.specs.Values.{IsRead, ReadsValues, ReadsRow, ReadsRows, fields_of, named}
+use Rattle.gx_model.specs.Values.{ReadsValues, ReadsRow, ReadsRows, fields_of, named}
 use Rattle.gx_model.proofs.Literals.{Laws, one_read, read_or_refused, one_refusal, one_right, right_or_refused, one_right_refusal}
 use Rattle.gx_model.proofs.Tables.{there, of_some}
 

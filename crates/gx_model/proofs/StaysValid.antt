@@ -13,20 +13,19 @@ use Rattle.gx_value.specs.Classes.{method_named}
 use Rattle.gx_value.specs.Values.{Datum}
 use Rattle.gx_parse.specs.declared.statement.ColumnWord.{ColumnWord}
 use Rattle.gx_parse.specs.declared.statement.Given.{Given}
-use Rattle.gx_parse.specs.declared.statement.Parameter.{Parameter}
-use Rattle.gx_parse.specs.Said.{Said, Query, Nothing, CreateTable, DropTable, CreateIndex, DropIndex, Insert, Delete, Select, Explain, Vacuum, Checkpoint, Begin, Commit, Rollback}
+use Rattle.gx_parse.specs.Said.{Said, Nothing, CreateTable, DropTable, CreateIndex, DropIndex, Insert, Delete, Select, Explain, Vacuum, Checkpoint, Begin, Commit, Rollback}
 use Rattle.gx_parse.specs.Trees.{Tree}
-use Rattle.gx_model.specs.Checks.{Check, Passes, Find, fault_where}
-use Rattle.gx_model.specs.Classes.{classes, class_among, class_chosen}
-use Rattle.gx_model.specs.Database.{Database, Table, Row, Index, IsTable, IsIndex, IsValid, IsRowOf, IsShort, Rises, AreDistinct, OfTable, is_table, table_named, column_named, with_table, without_table, without_index, with_rows, numbered, indexes_on, most_tables, most_columns, most_indexes, end_of_numbers}
+use Rattle.gx_model.specs.Checks.{Check, Find, fault_where}
+use Rattle.gx_model.specs.Classes.{class_among, class_chosen}
+use Rattle.gx_model.specs.Database.{Database, Table, Row, Index, IsTable, IsIndex, IsValid, IsRowOf, IsShort, AreDistinct, is_table, table_named, column_named, with_table, without_table, without_index, with_rows, numbered, most_tables, most_columns, most_indexes, end_of_numbers}
 use Rattle.gx_model.specs.Faults.{checks, found_checks, type_of, new_column_checks, new_table_checks, insert_checks, list_checks, width_check, rows_checks}
 use Rattle.gx_model.specs.Steps.{Stepped, Steps, Does, Inserts, Deletes, Selects, Explains, IsNewIndex, column_of, new_table, with_new_table, others, HasShortNames}
 use Rattle.gx_model.specs.Truth.{selects}
-use Rattle.gx_model.specs.Values.{named, ReadsRows}
-use Rattle.gx_model.proofs.Lists.{all_push, all_join, all_found, all_kept, map_join, length_map, length_push, no_longer, any_parts, any_cons, any_behind, other_way, none_of, distinct_push, distinct_kept, rises_join, rises_kept}
+use Rattle.gx_model.specs.Values.{named}
+use Rattle.gx_model.proofs.Lists.{all_push, all_join, all_found, all_kept, map_join, length_map, length_push, no_longer, any_cons, any_behind, other_way, distinct_push, distinct_kept, rises_join, rises_kept}
 use Rattle.gx_model.proofs.NewRows.{passed, passed_behind, all_named, targets_named, AreNew, are_new}
 use Rattle.gx_model.proofs.OneTurn.{Facts}
-use Rattle.gx_model.proofs.Tables.{there, found}
+use Rattle.gx_model.proofs.Tables.{there}
 
 abbrev name_of : Table → List ℕ
 name_of t = t.name

@@ -1,18 +1,16 @@
 -- What accepted and refused statements leave.
-use Rattle.std.proofs.Common.{◌≡◌, ◌⊎◌, inl, inr, ℕ, Bool, true, false, not, List, [], ◌∷◌, ◌++◌, length, map, Option, Some, None, refl, sym, ◌∙◌, ap, subst, codes}
-use Rattle.std.specs.Prelude.{filter, IsSome, IsSomeAnd, ◌↔◌}
+use Rattle.std.proofs.Common.{◌≡◌, ◌⊎◌, inl, inr, ℕ, Bool, false, not, List, [], ◌∷◌, ◌++◌, length, Option, Some, None, refl, ◌∙◌, ap, codes}
+use Rattle.std.specs.Prelude.{IsSome, ◌↔◌}
 use Rattle.std.specs.Fmt.{decimal}
 use Rattle.std.specs.List.{flat_map}
 use Rattle.gx_value.specs.Values.{Datum}
 use Rattle.gx_parse.specs.declared.statement.Given.{Given}
 use Rattle.gx_parse.specs.Said.{Said, Query, Nothing, CreateTable, DropTable, CreateIndex, DropIndex, Insert, Delete, Select, Explain, Vacuum, Checkpoint, Begin, Commit, Rollback}
 use Rattle.gx_parse.specs.Trees.{Tree}
-use Rattle.gx_model.specs.Checks.{Find}
 use Rattle.gx_model.specs.Conditions.{BindsWhere}
-use Rattle.gx_model.specs.Database.{Database, Table, Row, Index, IsIn, OfTable, table_named, with_rows}
-use Rattle.gx_model.specs.Faults.{checks}
-use Rattle.gx_model.specs.Replies.{line, refusal, row_line}
-use Rattle.gx_model.specs.Steps.{Stepped, Steps, Does, Inserts, Deletes, Selects, Explains, Accepts, IsNewIndex, select_all, others, selected, selection}
+use Rattle.gx_model.specs.Database.{Database, Table, Row, IsIn, table_named, with_rows}
+use Rattle.gx_model.specs.Replies.{line, row_line}
+use Rattle.gx_model.specs.Steps.{Stepped, Steps, Does, Inserts, Deletes, Selects, Explains, Accepts, select_all, others, selected, selection}
 use Rattle.gx_model.specs.Truth.{Bound, selects}
 use Rattle.gx_model.specs.Values.{named, ReadsRows}
 use Rattle.gx_model.proofs.Tables.{there, of_some, table_after, kept, stays, not_true, not_false, kept_all}

@@ -1,5 +1,5 @@
 -- The three values as ranks.
-use Rattle.std.proofs.Common.{◌≡◌, ℕ, ◌-◌, min, max, Option, Some, None, refl}
+use Rattle.std.proofs.Common.{◌≡◌, ◌-◌, min, max, Option, Some, None, refl}
 use Rattle.gx_value.specs.declared.operators.Operator.{Operator}
 use Rattle.gx_model.specs.Truth.{Operand, Truth, False, Unknown, True, rank, and_of, or_of, not_of, truth_of_atom}
 

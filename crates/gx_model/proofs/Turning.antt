@@ -1,10 +1,9 @@
 -- What turns leave of a session.
-use Rattle.std.proofs.Common.{◌≡◌, ◌⊎◌, inl, inr, ℕ, List, [], ◌∷◌, Option, Some, None, refl, sym, ◌∙◌, ap, subst}
+use Rattle.std.proofs.Common.{◌≡◌, ◌⊎◌, inl, inr, ℕ, List, [], ◌∷◌, Option, Some, None, refl, ◌∙◌, ap, subst}
 use Rattle.std.specs.Prelude.{IsSome}
 use Rattle.gx_parse.specs.Answers.{Answer, says, wrong_at, too_deep}
-use Rattle.gx_parse.specs.Said.{Said, Nothing, CreateTable, DropTable, CreateIndex, DropIndex, Insert, Delete, Select, Explain, Vacuum, Checkpoint, Begin, Commit, Rollback}
+use Rattle.gx_parse.specs.Said.{Said, Nothing, Vacuum, Checkpoint, Begin, Commit, Rollback}
 use Rattle.gx_model.specs.Database.{Database}
-use Rattle.gx_model.specs.Steps.{Stepped}
 use Rattle.gx_model.specs.Turns.{Session, Block, idle, begun, failed, session_over, refused_in, Turned, Turns, TurnsSeen, TurnsIdle, TurnsBegun, TurnsFailed, TurnsIn, TurnsSaid, TurnsRead, TurnsBy, reading_of, seen}
 use Rattle.gx_model.proofs.Stepping.{no_fault, some_none}
 

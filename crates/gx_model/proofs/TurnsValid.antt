@@ -1,10 +1,10 @@
 -- Every turn of a valid session leaves a valid one.
 use Rattle.std.proofs.Common.{◌≡◌, ◌⊎◌, inl, inr, ℕ, List, Option, Some, None, refl, sym, ap, subst}
 use Rattle.gx_parse.specs.Answers.{Answer, says, wrong_at, too_deep}
-use Rattle.gx_parse.specs.Said.{Said, Nothing, CreateTable, DropTable, CreateIndex, DropIndex, Insert, Delete, Select, Explain, Vacuum, Checkpoint, Begin, Commit, Rollback}
+use Rattle.gx_parse.specs.Said.{Said, Nothing, Vacuum, Checkpoint, Begin, Commit, Rollback}
 use Rattle.gx_model.specs.Database.{Database, IsValid}
 use Rattle.gx_model.specs.Steps.{HasShortNames}
-use Rattle.gx_model.specs.Turns.{Session, Block, idle, begun, failed, AreValid, session_over, refused_in, with_seen, seen_as, seen, seen_in, Turned, Turns, TurnsSeen, TurnsIdle, TurnsBegun, TurnsFailed, TurnsIn, TurnsSaid, TurnsBy, reading_of}
+use Rattle.gx_model.specs.Turns.{Session, Block, idle, begun, failed, AreValid, session_over, refused_in, seen_as, seen, seen_in, Turned, Turns, TurnsSeen, TurnsIdle, TurnsBegun, TurnsFailed, TurnsIn, TurnsSaid, TurnsBy, reading_of}
 use Rattle.gx_model.proofs.OneTurn.{Facts}
 use Rattle.gx_model.proofs.StaysValid.{effect_valid}
 

@@ -1,5 +1,5 @@
 -- The checks of a statement, in the order in which its faults come.
-use Rattle.std.specs.Prelude.{◌≡◌, ◌⊎◌, ℕ, ◌<◌, ◌≤◌, Bool, true, false, List, [], ◌∷◌, length, map, Option, None, Some}
+use Rattle.std.specs.Prelude.{◌≡◌, ◌⊎◌, ℕ, ◌<◌, ◌≤◌, Bool, true, false, List, [], ◌∷◌, length, Option, None, Some}
 use Rattle.gx_bytes.specs.declared.error.ValueError.{ValueError}
 use Rattle.gx_bytes.specs.declared.error.ValueError.TheVariants.{NoValue, OutOfRange, TooDeep, Memory}
 use Rattle.gx_value.specs.declared.types.ColumnType.{ColumnType}

@@ -1,12 +1,12 @@
 -- The checks of each statement, in the order in which its faults come.
-use Rattle.std.specs.Prelude.{ℕ, ◌+◌, ◌==◌, nat_le, nat_lt, suc, Bool, true, false, not, ◌||◌, ◌&&◌, List, [], ◌∷◌, ◌++◌, length, map, Option, None, Some, is_none, is_some, option_map, option_and_then}
-use Rattle.std.specs.List.{list_any, flat_map}
+use Rattle.std.specs.Prelude.{ℕ, ◌+◌, ◌==◌, nat_le, nat_lt, suc, Bool, true, false, not, ◌||◌, ◌&&◌, List, [], ◌∷◌, ◌++◌, length, map, Option, None, Some, is_none, is_some}
+use Rattle.std.specs.List.{list_any}
 use Rattle.std.specs.Str.{bytes_eq}
 use Rattle.gx_value.specs.declared.types.ColumnType.{ColumnType}
 use Rattle.gx_value.specs.declared.types.OperandType.{OperandType}
 use Rattle.gx_value.specs.declared.classes.Class.{Class}
 use Rattle.gx_value.specs.Classes.{method_named}
-use Rattle.gx_value.specs.Types.{column_named as column_type_named, operand_named, same_operand, as_operand}
+use Rattle.gx_value.specs.Types.{column_named as column_type_named, same_operand, as_operand}
 use Rattle.gx_parse.specs.declared.statement.ColumnWord.{ColumnWord}
 use Rattle.gx_parse.specs.declared.statement.Given.{Given}
 use Rattle.gx_parse.specs.declared.statement.Parameter.{Parameter}

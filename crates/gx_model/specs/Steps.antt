@@ -1,5 +1,5 @@
 -- What a statement does to a database.
-use Rattle.std.specs.Prelude.{◌≡◌, ◌⊎◌, ℕ, ◌+◌, ◌*◌, not, Bool, List, [], ◌∷◌, ◌++◌, length, map, filter, codes, Option, None, Some, option_map, IsSomeAnd}
+use Rattle.std.specs.Prelude.{◌≡◌, ◌⊎◌, ℕ, ◌+◌, ◌*◌, not, List, [], ◌∷◌, ◌++◌, length, map, filter, codes, Option, None, Some, option_map, IsSomeAnd}
 use Rattle.std.specs.Fmt.{decimal}
 use Rattle.std.specs.List.{flat_map, filter_map, AllByRecursion}
 use Rattle.gx_value.specs.Values.{Datum}

@@ -1,5 +1,5 @@
 -- What a piece of a script does in a session.
-use Rattle.std.specs.Prelude.{◌≡◌, ◌⊎◌, ℕ, ◌+◌, nat_lt, Bool, if◌then◌else◌, List, [], length, codes, Option, None, Some}
+use Rattle.std.specs.Prelude.{◌≡◌, ◌⊎◌, ℕ, ◌+◌, nat_lt, if◌then◌else◌, List, [], length, codes, Option, None, Some}
 use Rattle.gx_lexer.specs.Feeding.{longest}
 use Rattle.gx_parse.specs.Answers.{Answer, says, wrong_at, too_deep, answer_of}
 use Rattle.gx_parse.specs.Said.{Said, Nothing, Insert, Vacuum, Checkpoint, Begin, Commit, Rollback}
@@ -7,7 +7,7 @@ use Rattle.gx_model.specs.Checks.{Find}
 use Rattle.gx_model.specs.Database.{Database, IsValid}
 use Rattle.gx_model.specs.Faults.{checks}
 use Rattle.gx_model.specs.Replies.{Reply, line, accepted, refusal, syntax_error}
-use Rattle.gx_model.specs.Steps.{Stepped, Steps, Does, Costs, growth_of}
+use Rattle.gx_model.specs.Steps.{Stepped, Does, Costs, growth_of}
 
 -- The block of a session: none is open, one is open with a database of its own, or it has failed.
 pub data Block : Type 0 where

@@ -1,4 +1,3 @@
-use Rattle.gx_model.proofs.Literals.{Laws}
 use Rattle.gx_model.proofs.OneCost.{one_cost}
 use Rattle.gx_model.proofs.OneTurn as turns
 use Rattle.gx_model.proofs.laws.one_turn.Goals as goal
