@@ -40,7 +40,7 @@ columns_len (c ∷ columns) named =
     let rest = columns_len columns named.1 in
     omega (arith, first, rest, length-append (column_bytes c) (flat_map column_bytes columns))
 
-heap_len : (heap : Heap) → length (heap_bytes heap) ≡ 24
+pub heap_len : (heap : Heap) → length (heap_bytes heap) ≡ 24
 unfolding heap_bytes
 heap_len heap = omega (arith, length-append (le64 heap.next) (le64 heap.first ++ le64 heap.last), length-append (le64 heap.first) (le64 heap.last), length-le64 heap.next, length-le64 heap.first, length-le64 heap.last)
 

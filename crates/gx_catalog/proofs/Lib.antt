@@ -3,8 +3,12 @@ mod Changes
 mod Fronts
 mod Keys
 mod Lengths
+mod Moves
 mod Pigeons
+mod Placed
 mod Spelled
 mod Stored
+mod Staying
 mod TailFacts
+mod Whole
 mod Written

@@ -1,4 +1,5 @@
 pub mod Items
 pub mod Validity
 pub mod Tails
+pub mod Places
 pub mod Catalogs

@@ -5,7 +5,6 @@ ghost use Rattle.std.specs.Option.{option_copied};
 ghost use Rattle.gx_pages.specs.Footprints.{KeepsPages, StaysQuiet};
 ghost use Rattle.gx_pages.specs.Frees.{IsApart, IsFreeList, IsFull};
 ghost use Rattle.gx_pages.specs.Pages.{HasCause};
-ghost use Rattle.gx_slot.specs.Slots.{IsBroken};
 ghost use Rattle.gx_chain.specs.Chains.{IsSound};
 ghost use Rattle.gx_catalog.specs.Validity.{AreCatalog, HasIndex, HasNoIndex, HasNumber, IsHeap, index_named, table_named, table_numbered};
 ghost use Rattle.gx_catalog.specs.Catalogs.{HoldsCatalog, HoldsNoCatalog, Stores, StoresNone, chain_on, with_heap, with_nulls, without_index, without_table};
@@ -15,19 +14,15 @@ ghost use Rattle.gx_catalog.specs.declared.info.IndexInfo.{IndexInfo};
 use crate::info::{IndexInfo, TableInfo};
 use crate::lists::lists_of;
 use crate::lookup::{index_named, table_named, table_numbered};
+use crate::memory::{drop_index_of, drop_table_of, set_heap_of, set_nulls_of};
+use crate::place::{CATALOG, FIRST, find_place, no_catalog};
 use crate::validity::are_catalog;
 use crate::writing::{index_item, table_item};
-use gx_chain::Chain;
+use gx_chain::{Chain, replace_item};
 use gx_heap::Heap;
 use gx_pages::{PageError, Pages};
 use std::alloc::Global;
 use std::marker::Model;
-
-/// The kind of a catalog page.
-const CATALOG: u8 = 3;
-
-/// The first page of a catalog.
-const FIRST: u64 = 1;
 
 /// The tables and the indexes of a database, each in the order in which they were made, and the chain of pages that they
 /// stand on.
@@ -190,11 +185,19 @@ impl Catalog {
         ensures heap { IsSound result → P.heap_fetches pages.new ≡ P.heap_fetches pages.old }
         ensures quiet { StaysQuiet P.Pages pages.old pages.new }
     {
-        let _alloc = alloc;
-        let _pages = pages;
-        let _table = table;
-        let _heap = heap;
-        Err(PageError::Memory)
+        let Some(info) = table_numbered(self.tables.as_slice(), table) else {
+            unreachable!();
+        };
+        let Ok(old) = table_item(alloc, info, &info.heap) else {
+            return Err(PageError::Memory);
+        };
+        let Ok(new) = table_item(alloc, info, &heap) else {
+            return Err(PageError::Memory);
+        };
+        let place = find_place(alloc, pages, old.as_slice())?;
+        replace_item(pages, CATALOG, place.page, place.slot, new.as_slice())?;
+        set_heap_of(&mut self.tables, table, heap);
+        Ok(())
     }
 
     /// Gives the index of this name another root of the tree of its rows with NULL. It keeps its place.
@@ -217,11 +220,19 @@ impl Catalog {
         ensures heap { IsSound result → P.heap_fetches pages.new ≡ P.heap_fetches pages.old }
         ensures quiet { StaysQuiet P.Pages pages.old pages.new }
     {
-        let _alloc = alloc;
-        let _pages = pages;
-        let _name = name;
-        let _nulls = nulls;
-        Err(PageError::Memory)
+        let Some(info) = index_named(self.indexes.as_slice(), name) else {
+            unreachable!();
+        };
+        let Ok(old) = index_item(alloc, info, info.nulls) else {
+            return Err(PageError::Memory);
+        };
+        let Ok(new) = index_item(alloc, info, nulls) else {
+            return Err(PageError::Memory);
+        };
+        let place = find_place(alloc, pages, old.as_slice())?;
+        replace_item(pages, CATALOG, place.page, place.slot, new.as_slice())?;
+        set_nulls_of(&mut self.indexes, name, nulls);
+        Ok(())
     }
 
     /// Takes the table of this number out. No index may be on it.
@@ -244,10 +255,18 @@ impl Catalog {
         ensures heap { IsSound result → P.heap_fetches pages.new ≡ P.heap_fetches pages.old }
         ensures quiet { StaysQuiet P.Pages pages.old pages.new }
     {
-        let _alloc = alloc;
-        let _pages = pages;
-        let _table = table;
-        Err(PageError::Memory)
+        let Some(info) = table_numbered(self.tables.as_slice(), table) else {
+            unreachable!();
+        };
+        let Ok(old) = table_item(alloc, info, &info.heap) else {
+            return Err(PageError::Memory);
+        };
+        let place = find_place(alloc, pages, old.as_slice())?;
+        let mut chain = self.chain;
+        chain.remove(pages, CATALOG, place.before, place.page, place.slot)?;
+        drop_table_of(&mut self.tables, table);
+        self.chain = chain;
+        Ok(())
     }
 
     /// Takes the index of this name out.
@@ -269,10 +288,18 @@ impl Catalog {
         ensures heap { IsSound result → P.heap_fetches pages.new ≡ P.heap_fetches pages.old }
         ensures quiet { StaysQuiet P.Pages pages.old pages.new }
     {
-        let _alloc = alloc;
-        let _pages = pages;
-        let _name = name;
-        Err(PageError::Memory)
+        let Some(info) = index_named(self.indexes.as_slice(), name) else {
+            unreachable!();
+        };
+        let Ok(old) = index_item(alloc, info, info.nulls) else {
+            return Err(PageError::Memory);
+        };
+        let place = find_place(alloc, pages, old.as_slice())?;
+        let mut chain = self.chain;
+        chain.remove(pages, CATALOG, place.before, place.page, place.slot)?;
+        drop_index_of(&mut self.indexes, name);
+        self.chain = chain;
+        Ok(())
     }
 
     /// The table of this name.
@@ -309,16 +336,5 @@ impl Catalog {
             }
         }
         unreachable!()
-    }
-}
-
-// The pages hold no catalog of a database.
-fn no_catalog() -> PageError
-    ensures { IsBroken 1 result }
-{
-    PageError::Broken {
-        page: FIRST,
-        expected: 1,
-        found: 0,
     }
 }

@@ -43,7 +43,8 @@ pub fn count_on(indexes: &[IndexInfo], number: u32) -> usize
     indexes.iter().filter(|index| index.table == number).count()
 }
 
-fn is_same(one: &[u8], other: &[u8]) -> bool
+/// Whether both are the same bytes.
+pub fn is_same(one: &[u8], other: &[u8]) -> bool
     ensures { result ≡ bytes_eq one.now other.now }
 {
     one == other

@@ -1,6 +1,8 @@
-//! Tests of slot pages, chains and heaps, through their public calls.
+//! Tests of slot pages, chains, heaps and catalogs, through their public calls.
 #![tactic(auto)]
 
+#[cfg(test)]
+mod catalog;
 #[cfg(test)]
 mod chains;
 #[cfg(test)]

@@ -1,0 +1,114 @@
+use Rattle.std.proofs.Common.{◌≡◌, ◌≢◌, ◌≤◌, ◌<◌, ◌==◌, ◌++◌, ◌∷◌, List, ℕ, length, bytes_eq, Option, Some, None, refl, sym, ◌∙◌, ap, subst, arith}
+use Rattle.std.specs.List.{AllByRecursion}
+use Rattle.std.proofs.lemmas.Result.{err_from_is_err_and}
+use Rattle.std.proofs.lemmas.Slice.Eq.{bytes_eq-Decides}
+use Rattle.std.proofs.lemmas.Bool.Decides.{Decides-eqb}
+use Rattle.gx_words.specs.PageMap.{PageMap}
+use Rattle.gx_pages.proofs.Footprints as feet
+use Rattle.gx_chain.specs.declared.chain.Chain.{Chain}
+use Rattle.gx_chain.specs.declared.entry.Entry.{Entry}
+use Rattle.gx_chain.specs.Chains.{Holds, HoldsBeside, Link, entries_of}
+use Rattle.gx_chain.proofs.Links.{held_same}
+use Rattle.gx_heap.specs.declared.heap.Heap.{Heap}
+use Rattle.gx_catalog.specs.declared.info.TableInfo.{TableInfo}
+use Rattle.gx_catalog.specs.declared.info.IndexInfo.{IndexInfo}
+use Rattle.gx_catalog.specs.declared.info.Item.TheVariants.{Table, Index}
+use Rattle.gx_catalog.specs.Items.{table_part, index_part}
+use Rattle.gx_catalog.specs.Places.{HasNoItem, IsPlace}
+use Rattle.gx_catalog.specs.Validity.{AreCatalog, HasNoIndex, IsAmong, IsHeap, IsTable, index_named, table_numbered}
+use Rattle.gx_catalog.specs.Catalogs.{Directory, HoldsCatalog, HoldsNoCatalog, with_heap, with_nulls, without_index, without_table}
+use Rattle.gx_catalog.proofs.Keys.{among_found, find_some}
+use Rattle.gx_catalog.proofs.Moves.{Becomes, heap_becomes, heap_length, index_becomes, missing_index, missing_table, nulls_becomes, nulls_length, table_becomes}
+use Rattle.gx_catalog.proofs.Stored.{to_beside}
+use Rattle.gx_catalog.proofs.Whole.{all_among, heap_valid, index_valid, nulls_valid, table_valid, removed_catalog, replaced_catalog}
+use Rattle.gx_catalog.proofs.catalog.Catalog.set_heap.Goals as goal
+
+pub unreachable-requires : goal.unreachable-requires
+unreachable-requires g c =
+    let there = c.requires.there in
+    let view : Directory = record { chain = c.self.inside.chain; tables = c.self.inside.tables.items; indexes = c.self.inside.indexes.items } in
+    let is : view ≡ c.args.self.now = cc in
+    let among : IsAmong there.0 c.as_slice.result.now =
+        subst (λ (l : List TableInfo). IsAmong there.0 l) (ap (λ (d : Directory). d.tables) (sym is) ∙ sym c.as_slice.ensures.value) there.1 in
+    let some = among_found (λ (t : TableInfo). t.number) (λ a b. a == b) Decides-eqb c.as_slice.result.now c.args.table there.0 among there.2 in
+    let never : None ≡ Some some.found = c.in_default.ensures ∙ some.is in cc
+
+pub table_item-requires : goal.table_item-requires
+table_item-requires g c =
+    let found = find_some (λ (t : TableInfo). t.number) (λ a b. a == b) Decides-eqb c.as_slice.result.now c.args.table c.in-Some.info.now (sym c.in-Some.ensures) in
+    let among : IsAmong c.in-Some.info.now c.self.inside.tables.items = subst (λ (l : List TableInfo). IsAmong c.in-Some.info.now l) c.as_slice.ensures.value found.0 in
+    let few = (all_among IsTable c.self.inside.tables.items c.in-Some.info.now c.self.invariant.each_table among).columns.few in
+    omega (arith, few)
+
+pub table_item-requires-2 : goal.table_item-requires-2
+table_item-requires-2 g c =
+    let found = find_some (λ (t : TableInfo). t.number) (λ a b. a == b) Decides-eqb c.as_slice.result.now c.args.table c.in-Some.info.now (sym c.in-Some.ensures) in
+    let among : IsAmong c.in-Some.info.now c.self.inside.tables.items = subst (λ (l : List TableInfo). IsAmong c.in-Some.info.now l) c.as_slice.ensures.value found.0 in
+    let few = (all_among IsTable c.self.inside.tables.items c.in-Some.info.now c.self.invariant.each_table among).columns.few in
+    omega (arith, few)
+
+pub returns-in_err-place-clause-cause : goal.returns-in_err-place-clause-cause
+returns-in_err-place-clause-cause g c =
+    let p = err_from_is_err_and c.from_residual.result c.from_residual.ensures.1 in
+    let view : Directory = record { chain = c.self.inside.chain; tables = c.self.inside.tables.items; indexes = c.self.inside.indexes.items } in
+    let is : view ≡ c.args.self.now = cc in
+    let found = find_some (λ (t : TableInfo). t.number) (λ a b. a == b) Decides-eqb c.as_slice.result.now c.args.table c.in-Some.info.now (sym c.in-Some.ensures) in
+    let among : IsAmong c.in-Some.info.now c.self.inside.tables.items = subst (λ (l : List TableInfo). IsAmong c.in-Some.info.now l) c.as_slice.ensures.value found.0 in
+    let bytes = c.as_slice-2.ensures ∙ c.in-Ok.ensures.bytes in
+    rw (p.1, p.2)
+    (feet.cause_weaker c.in_err-place.field-0.0 (g.P.Pages.faults c.args.pages.now) (g.P.Pages.faults c.args.pages.now) (g.P.Pages.faults c.find_place.new.pages) (g.P.Pages.faults c.find_place.new.pages)
+    _ _ _ _ _ _ (omega arith) (omega arith)
+    (λ at expected found broken tells.
+    subst (λ (d : Directory). HoldsNoCatalog g.P.Pages c.args.pages.now d) is
+    (missing_table g.P.Pages c.args.pages.now view c.in-Some.info.now among
+    (subst (λ (b : List ℕ). HasNoItem (g.P.Pages.map c.args.pages.now) (g.P.Pages.count c.args.pages.now) b) bytes (broken tells))))
+    (λ n no. absurd no) (λ memory. tt) c.in_err-place.ensures.cause)
+
+pub returns-in_err-replace_item-clause-cause : goal.returns-in_err-replace_item-clause-cause
+returns-in_err-replace_item-clause-cause g c =
+    let p = err_from_is_err_and c.from_residual-in_err-replace_item.result c.from_residual-in_err-replace_item.ensures.1 in
+    let view : Directory = record { chain = c.self.inside.chain; tables = c.self.inside.tables.items; indexes = c.self.inside.indexes.items } in
+    let is : view ≡ c.args.self.now = cc in
+    let old = c.as_slice-2.ensures ∙ c.in-Ok.ensures.bytes in
+    let new = c.as_slice-3.ensures ∙ c.in-Ok-table_item.ensures.bytes in
+    let same = ap (λ (l : List ℕ). length l) old ∙ heap_length c.in-Some.info.now c.args.heap ∙ ap (λ (l : List ℕ). length l) (sym new) in
+    rw (p.1, p.2)
+    (feet.cause_weaker c.in_err-replace_item.field-0.0 (g.P.Pages.faults c.args.pages.now) (g.P.Pages.faults c.find_place.new.pages) (g.P.Pages.faults c.replace_item.new.pages)
+    (g.P.Pages.faults c.replace_item.new.pages) _ _ _ _ _ _ (let q = c.in_ok-place.ensures.quiet.faults in omega (arith, q)) (omega arith)
+    (λ at expected found broken tells.
+    subst (λ (d : Directory). HoldsNoCatalog g.P.Pages c.args.pages.now d) is (λ footprint free held.
+    let b = to_beside g.P.Pages c.args.pages.now view footprint free held in
+    let place = c.in_ok-place.ensures.found tells view.chain held.stored.links b.1 b.0.held in
+    let there = held_same g.P.Pages c.args.pages.now c.find_place.new.pages 3 view.chain held.stored.links free c.in_ok-place.ensures.map c.in_ok-place.ensures.count b.0 in
+    broken tells view.chain held.stored.links place.front place.back c.as_slice-2.result.now there.held place.is same))
+    (λ n no. absurd no) (λ memory. tt) c.in_err-replace_item.ensures.cause)
+
+pub returns-clause-set : goal.returns-clause-set
+returns-clause-set g c = λ tells footprint free held.
+    let view : Directory = record { chain = c.self.inside.chain; tables = c.self.inside.tables.items; indexes = c.self.inside.indexes.items } in
+    let is : view ≡ c.args.self.now = cc in
+    let found = find_some (λ (t : TableInfo). t.number) (λ a b. a == b) Decides-eqb c.as_slice.result.now c.args.table c.in-Some.info.now (sym c.in-Some.ensures) in
+    let among : IsAmong c.in-Some.info.now c.self.inside.tables.items = subst (λ (l : List TableInfo). IsAmong c.in-Some.info.now l) c.as_slice.ensures.value found.0 in
+    let low : IsHeap c.args.heap = c.requires.heap in
+    let old = c.as_slice-2.ensures ∙ c.in-Ok.ensures.bytes in
+    let new = c.as_slice-3.ensures ∙ c.in-Ok-table_item.ensures.bytes in
+    let now : with_heap c.in-Some.info.now.number c.args.heap c.self.inside.tables.items ≡ c.set_heap_of.new.tables.items = ap (λ (k : ℕ). with_heap k c.args.heap c.self.inside.tables.items) found.1 ∙ sym c.set_heap_of.ensures in
+    let whole = subst (λ (d : Directory). HoldsCatalog g.P.Pages c.args.pages.now d footprint free) (sym is) held in
+    let places = c.in_ok-place.ensures.found tells in
+    let b = to_beside g.P.Pages c.args.pages.now view footprint free whole in
+    let place = places view.chain whole.stored.links b.1 b.0.held in
+    let at : List ℕ → Entry = λ bytes. record { page = c.in_ok-place.place.page; slot = c.in_ok-place.place.slot; item = bytes } in
+    replaced_catalog g.P.Pages c.args.pages.now c.find_place.new.pages c.replace_item.new.pages view c.in_ok-place.place.before c.in_ok-place.place.page c.in_ok-place.place.slot c.as_slice-2.result.now
+    c.in_ok-place.ensures.map c.in_ok-place.ensures.count places footprint free whole c.set_heap_of.new.tables.items c.self.inside.indexes.items c.as_slice-3.result.now
+    (λ later then.
+    subst (λ (l : List TableInfo). Becomes later l c.self.inside.indexes.items) now
+    (heap_becomes (entries_of whole.stored.links) place.front place.back (at c.as_slice-2.result.now) view.tables view.indexes whole.stored.spelled whole.stored.valid place.is later c.in-Some.info.now
+    old c.in-Ok.ensures.fits c.args.heap (at c.as_slice-3.result.now) low new c.in-Ok-table_item.ensures.fits then))
+    (c.in_ok-replace_item.ensures.replaced tells)
+
+pub invariant_of-self : goal.invariant_of-self
+invariant_of-self g c =
+    let found = find_some (λ (t : TableInfo). t.number) (λ a b. a == b) Decides-eqb c.as_slice.result.now c.args.table c.in-Some.info.now (sym c.in-Some.ensures) in
+    let among : IsAmong c.in-Some.info.now c.self.inside.tables.items = subst (λ (l : List TableInfo). IsAmong c.in-Some.info.now l) c.as_slice.ensures.value found.0 in
+    let now : with_heap c.in-Some.info.now.number c.args.heap c.self.inside.tables.items ≡ c.set_heap_of.new.tables.items = ap (λ (k : ℕ). with_heap k c.args.heap c.self.inside.tables.items) found.1 ∙ sym c.set_heap_of.ensures in
+    subst (λ (l : List TableInfo). AreCatalog l c.self.inside.indexes.items) now (heap_valid c.self.inside.tables.items c.self.inside.indexes.items c.self.invariant c.in-Some.info.now c.args.heap among c.requires.heap)
