@@ -3,5 +3,6 @@ pub mod Changes
 pub mod Views
 pub mod Empty
 pub mod OneDatabase
+pub mod OneMap
 pub mod Exchange
 pub mod There

@@ -50,11 +50,12 @@ pub fn empty_stands()
     ensures { StandsFor empty_pages empty }
 {}
 
-/// A map stands for one database, where its catalog is one.
+/// A map stands for at most one database.
 pub fn one_database()
-    ensures { (pages : PageMap) (a b : Database) (one : StandsFor pages a) (other : StandsFor pages b) → one.infos ≡ other.infos → a ≡ b }
+    ensures { (pages : PageMap) (a b : Database) → StandsFor pages a → StandsFor pages b → a ≡ b }
 {
     gx_value::one_row();
+    gx_catalog::one_catalog();
 }
 
 /// A table of a database has one place in the catalog and among the heaps. Another table there, stored as it says, gives the
