@@ -1,0 +1,8 @@
+pub mod Times
+pub mod Changes
+pub mod Views
+pub mod Empty
+pub mod OneDatabase
+pub mod OneMap
+pub mod Exchange
+pub mod There
