@@ -1,9 +1,5 @@
-//! Tests of the cutter and the grammar by their public calls.
+//! Tests of the grammar by its public calls.
 #![tactic(auto)]
 
-#[cfg(test)]
-mod cutting;
-#[cfg(test)]
-mod grouping;
 #[cfg(test)]
 mod statements;
