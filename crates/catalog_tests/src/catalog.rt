@@ -86,11 +86,13 @@ fn what_is_loaded(rt: HostRuntime) -> Result<(), Fail> {
                 assert!(rt; loads);
                 assert_eq!(rt; catalog.tables().len(), tables.len());
             }
-            Err(PageError::Broken {
-                page,
-                expected,
-                found,
-            }) => {
+            Err(
+                PageError::Broken {
+                    page,
+                    expected,
+                    found,
+                },
+            ) => {
                 assert!(rt; !loads);
                 assert!(rt; page == 1 && expected != found);
             }
@@ -117,11 +119,21 @@ fn hostile_chains(rt: HostRuntime) -> Result<(), Fail> {
     let mut slots = SlotPage::new(3, 0);
     slots.set_next(1);
     pages.put(1, slots.page())?;
-    assert!(rt; matches!(Catalog::load(alloc, &mut pages).err(), Some(PageError::Broken { .. })));
+    assert!(rt;
+        matches!(
+            Catalog::load(alloc, &mut pages).err(),
+            Some(PageError::Broken { .. })
+        )
+    );
     let mut slots = SlotPage::new(3, 0);
     assert!(rt; slots.add(&[2, 0, 0]).is_ok());
     pages.put(1, slots.page())?;
-    assert!(rt; matches!(Catalog::load(alloc, &mut pages).err(), Some(PageError::Broken { .. })));
+    assert!(rt;
+        matches!(
+            Catalog::load(alloc, &mut pages).err(),
+            Some(PageError::Broken { .. })
+        )
+    );
     Ok(())
 }
 
@@ -146,7 +158,10 @@ fn tables_change(rt: HostRuntime) -> Result<(), Fail> {
     assert_eq!(rt; again.tables().len(), 10);
     let numbers = [1, 2, 4, 5, 6, 7, 8, 9, 10, 11];
     for (at, number) in numbers.iter().enumerate() {
-        let found = again.tables().get(at).map(|table| (table.number, table.heap.first));
+        let found = again
+            .tables()
+            .get(at)
+            .map(|table| (table.number, table.heap.first));
         let first = if *number == 5 { 50 } else { u64::from(*number) };
         assert_eq!(rt; found, Some((*number, first)));
     }

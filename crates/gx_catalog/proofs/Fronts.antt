@@ -85,7 +85,7 @@ each_same [] (b ∷ ds) x y len same = absurd (omega (arith, len))
 each_same (a ∷ cs) [] x y len same = absurd (omega (arith, len))
 each_same (a ∷ cs) (b ∷ ds) x y len same =
     let first = column_same a b (flat_map column_bytes cs ++ x) (flat_map column_bytes ds ++ y)
-        (sym (append_assoc (column_bytes a) (flat_map column_bytes cs) x) ∙ same ∙ append_assoc (column_bytes b) (flat_map column_bytes ds) y) in
+    (sym (append_assoc (column_bytes a) (flat_map column_bytes cs) x) ∙ same ∙ append_assoc (column_bytes b) (flat_map column_bytes ds) y) in
     let rest = each_same cs ds x y (omega (arith, len)) first.1 in
     (ap (λ (c : Column). c ∷ cs) first.0 ∙ ap (λ (l : List Column). b ∷ l) rest.0, rest.1)
 
@@ -266,7 +266,7 @@ next_column [] (c ∷ columns) rest more fewer same = (c, (flat_map column_bytes
 next_column (d ∷ done) [] rest more fewer same = absurd (omega (arith, fewer))
 next_column (d ∷ done) (c ∷ columns) rest more fewer same =
     let first = column_same d c (flat_map column_bytes done ++ rest) (flat_map column_bytes columns ++ more)
-        (sym (append_assoc (column_bytes d) (flat_map column_bytes done) rest) ∙ same ∙ append_assoc (column_bytes c) (flat_map column_bytes columns) more) in
+    (sym (append_assoc (column_bytes d) (flat_map column_bytes done) rest) ∙ same ∙ append_assoc (column_bytes c) (flat_map column_bytes columns) more) in
     next_column done columns rest more (omega (arith, fewer)) first.1
 
 pub taken_none : (bytes rest : List ℕ) (done : List Column) (count all : ℕ) → Taken bytes done rest count → count < all → BeginsNone Any column_bytes rest

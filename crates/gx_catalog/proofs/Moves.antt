@@ -205,7 +205,7 @@ module _ (entries front back : List Entry) (e : Entry) (tables : List TableInfo)
     heap_becomes heap f low put fit then =
         let u : TableInfo = record t { heap = heap } in
         let now : with_heap t.number heap tables ≡ tables_in c.xs ++ u ∷ tables_in c.ys =
-            ap (λ (l : List TableInfo). with_heap t.number heap l) tables_cut ∙ heap_one (tables_in c.xs) (tables_in c.ys) t heap indexes low valid_cut in
+        ap (λ (l : List TableInfo). with_heap t.number heap l) tables_cut ∙ heap_one (tables_in c.xs) (tables_in c.ys) t heap indexes low valid_cut in
         becomes_at later (tables_in (c.xs ++ Table u ∷ c.ys)) (with_heap t.number heap tables) (indexes_in (c.xs ++ Table u ∷ c.ys)) indexes
         (mid_tables c.xs c.ys u ∙ sym now) (same_indexes c.xs c.ys u ∙ sym (same_indexes c.xs c.ys t) ∙ sym c.indexes_are)
         (spells_other entries front back e tables indexes (Table t) spells c later f (Table u) then put fit)
@@ -214,7 +214,7 @@ module _ (entries front back : List Entry) (e : Entry) (tables : List TableInfo)
     pub table_becomes : HasNoIndex t.number indexes → later ≡ front ++ back → Becomes later (without_table t.number tables) indexes
     table_becomes bare then =
         let now : without_table t.number tables ≡ tables_in c.xs ++ tables_in c.ys =
-            ap (λ (l : List TableInfo). without_table t.number l) tables_cut ∙ without_one (tables_in c.xs) (tables_in c.ys) t indexes bare valid_cut in
+        ap (λ (l : List TableInfo). without_table t.number l) tables_cut ∙ without_one (tables_in c.xs) (tables_in c.ys) t indexes bare valid_cut in
         becomes_at later (tables_in (c.xs ++ c.ys)) (without_table t.number tables) (indexes_in (c.xs ++ c.ys)) indexes
         (tables_append c.xs c.ys ∙ sym now) (indexes_append c.xs c.ys ∙ sym (same_indexes c.xs c.ys t) ∙ sym c.indexes_are)
         (spells_without entries front back e tables indexes (Table t) spells c later then)
@@ -235,7 +235,7 @@ module _ (entries front back : List Entry) (e : Entry) (tables : List TableInfo)
     nulls_becomes nulls f put fit then =
         let j : IndexInfo = record i { nulls = nulls } in
         let now : with_nulls i.name nulls indexes ≡ indexes_in d.xs ++ j ∷ indexes_in d.ys =
-            ap (λ (l : List IndexInfo). with_nulls i.name nulls l) indexes_cut ∙ nulls_one tables (indexes_in d.xs) (indexes_in d.ys) i nulls valid_index in
+        ap (λ (l : List IndexInfo). with_nulls i.name nulls l) indexes_cut ∙ nulls_one tables (indexes_in d.xs) (indexes_in d.ys) i nulls valid_index in
         becomes_at later (tables_in (d.xs ++ Index j ∷ d.ys)) tables (indexes_in (d.xs ++ Index j ∷ d.ys)) (with_nulls i.name nulls indexes)
         (same_tables d.xs d.ys j ∙ sym (same_tables d.xs d.ys i) ∙ sym d.tables_are) (mid_indexes d.xs d.ys j ∙ sym now)
         (spells_other entries front back e tables indexes (Index i) spells d later f (Index j) then put fit)
@@ -244,7 +244,7 @@ module _ (entries front back : List Entry) (e : Entry) (tables : List TableInfo)
     pub index_becomes : later ≡ front ++ back → Becomes later tables (without_index i.name indexes)
     index_becomes then =
         let now : without_index i.name indexes ≡ indexes_in d.xs ++ indexes_in d.ys =
-            ap (λ (l : List IndexInfo). without_index i.name l) indexes_cut ∙ without_this tables (indexes_in d.xs) (indexes_in d.ys) i valid_index in
+        ap (λ (l : List IndexInfo). without_index i.name l) indexes_cut ∙ without_this tables (indexes_in d.xs) (indexes_in d.ys) i valid_index in
         becomes_at later (tables_in (d.xs ++ d.ys)) tables (indexes_in (d.xs ++ d.ys)) (without_index i.name indexes)
         (tables_append d.xs d.ys ∙ sym (same_tables d.xs d.ys i) ∙ sym d.tables_are) (indexes_append d.xs d.ys ∙ sym now)
         (spells_without entries front back e tables indexes (Index i) spells d later then)

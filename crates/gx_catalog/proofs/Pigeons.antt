@@ -29,7 +29,7 @@ pigeons (suc n) tables all =
     let last = all (suc n) (omega arith) (omega arith) in
     let s = split tables last.0 last.1 in
     let rest = pigeons n (s.front ++ s.back) (λ k some most.
-        let one = all k some (omega (arith, most)) in
-        (one.0, other s.front s.back last.0 one.0 (among_at tables (s.front ++ last.0 ∷ s.back) one.0 s.is one.1) (λ same. let a = one.2 in let b = last.2 in omega (arith, a, b, same, most)), one.2)) in
+    let one = all k some (omega (arith, most)) in
+    (one.0, other s.front s.back last.0 one.0 (among_at tables (s.front ++ last.0 ∷ s.back) one.0 s.is one.1) (λ same. let a = one.2 in let b = last.2 in omega (arith, a, b, same, most)), one.2)) in
     let long = ap (λ (l : List TableInfo). length l) s.is in
     omega (arith, rest, long, length-append s.front (last.0 ∷ s.back), length-append s.front s.back)

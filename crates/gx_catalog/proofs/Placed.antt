@@ -43,8 +43,7 @@ ends_next pages k n page at below is = λ some. (take k pages, ap (λ (m : ℕ).
 
 pub before_this : (pages : List ℕ) (k page before : ℕ) → k < length pages → page ≡ get_or pages k page → EndsWith (take k pages) before → IsBehind before page pages
 before_this pages k page before below is ends = λ some.
-    let front = ends some in
-    (
+    let front = ends some in (
       front.0,
       drop (suc k) pages,
       cut_at pages k page below is ∙ ap (λ (l : List ℕ). l ++ page ∷ drop (suc k) pages) front.1 ∙ append_assoc front.0 (before ∷ []) (page ∷ drop (suc k) pages),

@@ -92,15 +92,17 @@ new_tables indexes (t ∷ tables) each names numbers few = (
 pub indexes_new : (tables : List TableInfo) (indexes : List IndexInfo) → AllTails (IsNewIndex tables) indexes → AllByRecursion (IsIndex tables) indexes × AreDistinct (map (λ (i : IndexInfo). i.name) indexes)
 indexes_new tables [] new = (tt, tt)
 indexes_new tables (i ∷ indexes) new =
-    let rest = indexes_new tables indexes new.1 in
-    ((record { name = new.0.name; column = new.0.column; parameter = new.0.parameter }, rest.0),
-      (find_none (λ (i : IndexInfo). i.name) bytes_eq bytes_eq-Decides indexes i.name new.0.new, rest.1))
+    let rest = indexes_new tables indexes new.1 in (
+      (record { name = new.0.name; column = new.0.column; parameter = new.0.parameter }, rest.0),
+      (find_none (λ (i : IndexInfo). i.name) bytes_eq bytes_eq-Decides indexes i.name new.0.new, rest.1),
+    )
 
 pub new_indexes : (tables : List TableInfo) (indexes : List IndexInfo) → AllByRecursion (IsIndex tables) indexes → AreDistinct (map (λ (i : IndexInfo). i.name) indexes) → AllTails (IsNewIndex tables) indexes
 new_indexes tables [] each names = tt
-new_indexes tables (i ∷ indexes) each names =
-    (record { name = each.0.name; new = none_find (λ (i : IndexInfo). i.name) bytes_eq bytes_eq-Decides indexes i.name names.0; parameter = each.0.parameter; column = each.0.column },
-      new_indexes tables indexes each.1 names.1)
+new_indexes tables (i ∷ indexes) each names = (
+  record { name = each.0.name; new = none_find (λ (i : IndexInfo). i.name) bytes_eq bytes_eq-Decides indexes i.name names.0; parameter = each.0.parameter; column = each.0.column },
+  new_indexes tables indexes each.1 names.1,
+)
 
 pub catalog_new : (tables : List TableInfo) (indexes : List IndexInfo) → length tables ≤ 256 → AllTails (IsNewTable indexes) tables → AllTails (IsNewIndex tables) indexes → AreCatalog tables indexes
 catalog_new tables indexes few new more =

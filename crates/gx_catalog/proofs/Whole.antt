@@ -93,7 +93,7 @@ module _ {P : Type 0} (g : Ghosts P) (old mid new : P) (catalog : Directory) (be
       let r = replaced catalog.chain links free place.front place.back was mid_held place.is in
       let b = becomes (entries_of r.0) r.2 in
       let long : length r.0 ≡ length links =
-          (let all = ap (λ (l : List ℕ). length l) r.3 in omega (arith, all, length-map r.0 (λ (l : Link). l.0), length-map links (λ (l : Link). l.0))) in
+      (let all = ap (λ (l : List ℕ). length l) r.3 in omega (arith, all, length-map r.0 (λ (l : Link). l.0), length-map links (λ (l : Link). l.0))) in
       let stand : pages_of r.0 ≡ footprint = r.3 ∙ sym held.stored.stand in (
         subst (λ (l : List ℕ). HoldsCatalog g new (record { chain = catalog.chain; tables = tables; indexes = indexes }) l free) stand
             (from_beside g new catalog.chain r.0 tables indexes free beside.1 r.1 (beside.2 ∙ sym long) b.spells b.valid),

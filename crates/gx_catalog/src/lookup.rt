@@ -12,7 +12,9 @@ use gx_value::Column;
 pub fn table_named<'a>(tables: &'a [TableInfo], name: &[u8]) -> Option<&'a TableInfo>
     ensures { option_copied result ≡ table_named name.now tables.now }
 {
-    tables.iter().find(|table| is_same(table.name.as_slice(), name))
+    tables
+        .iter()
+        .find(|table| is_same(table.name.as_slice(), name))
 }
 
 /// The table of this number.
@@ -26,14 +28,18 @@ pub fn table_numbered(tables: &[TableInfo], number: u32) -> Option<&TableInfo>
 pub fn index_named<'a>(indexes: &'a [IndexInfo], name: &[u8]) -> Option<&'a IndexInfo>
     ensures { option_copied result ≡ index_named name.now indexes.now }
 {
-    indexes.iter().find(|index| is_same(index.name.as_slice(), name))
+    indexes
+        .iter()
+        .find(|index| is_same(index.name.as_slice(), name))
 }
 
 /// The column of this name.
 pub fn column_named<'a>(columns: &'a [Column], name: &[u8]) -> Option<&'a Column>
     ensures { option_copied result ≡ find (λ (column : Column). bytes_eq column.name name.now) columns.now }
 {
-    columns.iter().find(|column| is_same(column.name.as_slice(), name))
+    columns
+        .iter()
+        .find(|column| is_same(column.name.as_slice(), name))
 }
 
 /// How many indexes are on the table of this number.

@@ -30,11 +30,7 @@ pub struct Place {
 }
 
 /// The place of the first item with these bytes. Broken where no chain has one.
-pub fn find_place<P: Pages>(
-    alloc: Global,
-    pages: &mut P,
-    item: &[u8],
-) -> Result<Place, PageError>
+pub fn find_place<P: Pages>(alloc: Global, pages: &mut P, item: &[u8]) -> Result<Place, PageError>
     ensures found { IfOk result (λ place. P.tells → (chain : Chain) (links : List Link) → chain.first ≡ 1 → Holds (P.map pages.old) (P.count pages.old) 3 chain links
         → IsPlace links place.before place.page place.slot item.now) }
     ensures cause { IfErr result (HasCause (P.faults pages.old) (P.faults pages.new)

@@ -150,11 +150,7 @@ fn take_columns(alloc: Global, bytes: &[u8]) -> Result<Option<(Columns, &[u8])>,
 }
 
 // So many columns at the front, and what stands behind them.
-fn take_each(
-    alloc: Global,
-    count: u8,
-    bytes: &[u8],
-) -> Result<Option<(Columns, &[u8])>, NoMemory>
+fn take_each(alloc: Global, count: u8, bytes: &[u8]) -> Result<Option<(Columns, &[u8])>, NoMemory>
     ensures { IfOk result (λ found. MatchOption found (BeginsNone (HasCount count) (flat_map column_bytes) bytes.now)
         (λ found. HasCount count found.0 × (bytes.now ≡ flat_map column_bytes found.0 ++ found.1.now))) }
 {

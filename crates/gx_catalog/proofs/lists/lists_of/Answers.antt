@@ -17,7 +17,7 @@ pub loop-entry-preserved : goal.loop-entry-preserved
 loop-entry-preserved c =
     let some = rw c.in-Some.is at c.in_ok-item.ensures in
     elim c.match-item.branch [
-      in-Table+in_ok-push-in-Table w ↦
+      | in-Table+in_ok-push-in-Table w ↦
           spells_next c.args.entries.now c.loop-entry.entry-index (c.loop-entry.entry-index + 1) c.loop-entry.tables.items c.match-item.tables.items c.loop-entry.indexes.items c.match-item.indexes.items
           c.entry-item.result c.in-Some.item (add-one c.loop-entry.entry-index) c.loop-entry-test.true c.entry-item.is c.loop-entry.invariant some.0 (sym c.as_slice.ensures ∙ some.1)
           (ap (λ v. v.items) w.tables-is ∙ w.in_ok-push-in-Table.ensures.items ∙ ap (λ (i : Item). c.loop-entry.tables.items ++ tables_in (i ∷ [])) (sym w.in-Table.is))

@@ -14,7 +14,7 @@ loop-table-preserved c =
     let below : c.loop-table.table-index < length c.args.tables.now.items = omega (arith, same, test) in
     let number = ap (λ (t : TableInfo). t.number) c.table-item.is in
     elim c.if-table-number.branch [
-      then-table-number w ↦
+      | then-table-number w ↦
           half_changed change c.args.tables.now.items c.loop-table.table-items c.if-table-number.table-items c.loop-table.table-index (c.loop-table.table-index + 1) c.table-item.result
           (add-one c.loop-table.table-index) below c.table-item.is c.loop-table.invariant (record c.table-item.result { heap = c.args.heap })
           (ap (λ (b : Bool). cond b (record c.table-item.result { heap = c.args.heap }) c.table-item.result) (sym ((Decides-eqb c.table-item.result.number c.args.number).1 (number ∙ w.if-table-number.true))))

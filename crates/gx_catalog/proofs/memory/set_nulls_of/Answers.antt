@@ -12,7 +12,7 @@ loop-index-preserved c =
     let below : c.loop-index.index-index < length c.args.indexes.now.items = omega (arith, same, test) in
     let name = ap (λ (l : List ℕ). bytes_eq l c.args.name.now) (ap (λ (i : IndexInfo). i.name) c.index-item.is ∙ sym c.as_slice.ensures) ∙ sym c.is_same.ensures in
     elim c.if-is_same.branch [
-      then-is_same w ↦
+      | then-is_same w ↦
           half_changed change c.args.indexes.now.items c.loop-index.index-items c.if-is_same.index-items c.loop-index.index-index (c.loop-index.index-index + 1) c.index-item.result
           (add-one c.loop-index.index-index) below c.index-item.is c.loop-index.invariant (record c.index-item.result { nulls = c.args.nulls })
           (ap (λ (b : Bool). cond b (record c.index-item.result { nulls = c.args.nulls }) c.index-item.result) (sym (name ∙ w.if-is_same.true)))

@@ -23,7 +23,7 @@ returns-in_default-clause-cause g c =
     let o = c.in_ok-_chain.ensures.linked tells in
     let links_are : links ≡ o.0 = one_list (g.P.Pages.map c.args.pages.now) 3 links o.0 held.linked o.1.linked (sym held.first ∙ first ∙ sym c.in_ok-_chain.ensures.first ∙ o.1.first) in
     let all : c.as_slice.result.now ≡ front ++ record { page = page; slot = slot; item = c.args.item.now } ∷ back =
-        c.as_slice.ensures.value ∙ o.2 ∙ ap (λ (l : List Link). entries_of l) (sym links_are) ∙ same in
+    c.as_slice.ensures.value ∙ o.2 ∙ ap (λ (l : List Link). entries_of l) (sym links_are) ∙ same in
     let none = subst (λ (l : List Entry). AllByRecursion (λ (e : Entry). e.item ≢ c.args.item.now) l) all c.in_default.ensures.none in
     (feet.all_right (λ (e : Entry). e.item ≢ c.args.item.now) front (record { page = page; slot = slot; item = c.args.item.now } ∷ back) none).0 refl)
 

@@ -29,7 +29,7 @@ unreachable-requires g c =
     let view : Directory = record { chain = c.self.inside.chain; tables = c.self.inside.tables.items; indexes = c.self.inside.indexes.items } in
     let is : view ≡ c.args.self.now = cc in
     let among : IsAmong there.0 c.as_slice.result.now =
-        subst (λ (l : List IndexInfo). IsAmong there.0 l) (ap (λ (d : Directory). d.indexes) (sym is) ∙ sym c.as_slice.ensures.value) there.1 in
+    subst (λ (l : List IndexInfo). IsAmong there.0 l) (ap (λ (d : Directory). d.indexes) (sym is) ∙ sym c.as_slice.ensures.value) there.1 in
     let some = among_found (λ (i : IndexInfo). i.name) bytes_eq bytes_eq-Decides c.as_slice.result.now c.args.name.now there.0 among there.2 in
     let never : None ≡ Some some.found = c.in_default.ensures ∙ some.is in cc
 

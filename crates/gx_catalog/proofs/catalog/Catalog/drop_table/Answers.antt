@@ -29,7 +29,7 @@ unreachable-requires g c =
     let view : Directory = record { chain = c.self.inside.chain; tables = c.self.inside.tables.items; indexes = c.self.inside.indexes.items } in
     let is : view ≡ c.args.self.now = cc in
     let among : IsAmong there.0 c.as_slice.result.now =
-        subst (λ (l : List TableInfo). IsAmong there.0 l) (ap (λ (d : Directory). d.tables) (sym is) ∙ sym c.as_slice.ensures.value) there.1 in
+    subst (λ (l : List TableInfo). IsAmong there.0 l) (ap (λ (d : Directory). d.tables) (sym is) ∙ sym c.as_slice.ensures.value) there.1 in
     let some = among_found (λ (t : TableInfo). t.number) (λ a b. a == b) Decides-eqb c.as_slice.result.now c.args.table there.0 among there.2 in
     let never : None ≡ Some some.found = c.in_default.ensures ∙ some.is in cc
 
@@ -80,7 +80,7 @@ returns-clause-dropped g c = λ tells footprint free held.
     let found = find_some (λ (t : TableInfo). t.number) (λ a b. a == b) Decides-eqb c.as_slice.result.now c.args.table c.in-Some.info.now (sym c.in-Some.ensures) in
     let among : IsAmong c.in-Some.info.now c.self.inside.tables.items = subst (λ (l : List TableInfo). IsAmong c.in-Some.info.now l) c.as_slice.ensures.value found.0 in
     let bare : HasNoIndex c.in-Some.info.now.number c.self.inside.indexes.items =
-        subst (λ (n : ℕ). HasNoIndex n c.self.inside.indexes.items) (sym found.1) (subst (λ (d : Directory). HasNoIndex c.args.table d.indexes) (sym is) c.requires.bare) in
+    subst (λ (n : ℕ). HasNoIndex n c.self.inside.indexes.items) (sym found.1) (subst (λ (d : Directory). HasNoIndex c.args.table d.indexes) (sym is) c.requires.bare) in
     let bytes = c.as_slice-2.ensures ∙ c.in-Ok.ensures.bytes in
     let now : without_table c.in-Some.info.now.number c.self.inside.tables.items ≡ c.drop_table_of.new.tables.items = ap (λ (k : ℕ). without_table k c.self.inside.tables.items) found.1 ∙ sym c.drop_table_of.ensures in
     let whole = subst (λ (d : Directory). HoldsCatalog g.P.Pages c.args.pages.now d footprint free) (sym is) held in
@@ -102,6 +102,6 @@ invariant_of-self g c =
     let found = find_some (λ (t : TableInfo). t.number) (λ a b. a == b) Decides-eqb c.as_slice.result.now c.args.table c.in-Some.info.now (sym c.in-Some.ensures) in
     let among : IsAmong c.in-Some.info.now c.self.inside.tables.items = subst (λ (l : List TableInfo). IsAmong c.in-Some.info.now l) c.as_slice.ensures.value found.0 in
     let bare : HasNoIndex c.in-Some.info.now.number c.self.inside.indexes.items =
-        subst (λ (n : ℕ). HasNoIndex n c.self.inside.indexes.items) (sym found.1) (subst (λ (d : Directory). HasNoIndex c.args.table d.indexes) (sym is) c.requires.bare) in
+    subst (λ (n : ℕ). HasNoIndex n c.self.inside.indexes.items) (sym found.1) (subst (λ (d : Directory). HasNoIndex c.args.table d.indexes) (sym is) c.requires.bare) in
     let now : without_table c.in-Some.info.now.number c.self.inside.tables.items ≡ c.drop_table_of.new.tables.items = ap (λ (k : ℕ). without_table k c.self.inside.tables.items) found.1 ∙ sym c.drop_table_of.ensures in
     subst (λ (l : List TableInfo). AreCatalog l c.self.inside.indexes.items) now (table_valid c.self.inside.tables.items c.self.inside.indexes.items c.self.invariant c.in-Some.info.now among bare)

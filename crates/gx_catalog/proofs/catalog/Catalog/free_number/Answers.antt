@@ -18,7 +18,7 @@ loop-number-preserved c = λ n some below.
 pub unreachable-requires : goal.unreachable-requires
 unreachable-requires c =
     let all : 257 ≤ length c.as_slice-tables.result.now =
-        pigeons 257 c.as_slice-tables.result.now (λ k some most. c.loop-number.invariant k some (let done = c.loop-number-test.false in omega (arith, most, done))) in
+    pigeons 257 c.as_slice-tables.result.now (λ k some most. c.loop-number.invariant k some (let done = c.loop-number-test.false in omega (arith, most, done))) in
     let same = ap (λ (l : List TableInfo). length l) c.as_slice-tables.ensures.value in
     let few = c.self.invariant.few in
     omega (arith, all, same, few)

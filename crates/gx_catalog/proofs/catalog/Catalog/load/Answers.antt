@@ -41,7 +41,7 @@ returns-then-not-are_catalog-clause-cause g c =
     let o = c.in_ok-chain.ensures.linked tells in
     let spells = rw c.in-Some.is at c.in-Ok.ensures in
     let lists = stored_lists (g.P.Pages.map c.args.pages.now) (g.P.Pages.count c.args.pages.now) tables indexes footprint stored c.in_ok-chain.chain o.0 c.in_ok-chain.entries.items c.in-Some.tables.items
-        c.in-Some.indexes.items c.in_ok-chain.ensures.first o.1 o.2 (subst (λ (l : List Entry). Spells l c.in-Some.tables.items c.in-Some.indexes.items) c.as_slice.ensures.value spells) in
+    c.in-Some.indexes.items c.in_ok-chain.ensures.first o.1 o.2 (subst (λ (l : List Entry). Spells l c.in-Some.tables.items c.in-Some.indexes.items) c.as_slice.ensures.value spells) in
     not_true c.are_catalog.result c.if-not-are_catalog.true
     (c.are_catalog.ensures.1
     (subst (λ (l : List TableInfo). AreCatalog l c.as_slice-3.result.now) (sym (c.as_slice-2.ensures.value ∙ lists.0))
@@ -52,10 +52,10 @@ returns-clause-loaded g c = λ tells.
     let o = c.in_ok-chain.ensures.linked tells in
     let spells = rw c.in-Some.is at c.in-Ok.ensures in
     let valid : AreCatalog c.in-Some.tables.items c.in-Some.indexes.items =
-        subst (λ (l : List TableInfo). AreCatalog l c.in-Some.indexes.items) c.as_slice-2.ensures.value
-        (subst (λ (l : List IndexInfo). AreCatalog c.as_slice-2.result.now l) c.as_slice-3.ensures.value (c.are_catalog.ensures.0 c.if-not-are_catalog.false)) in
+    subst (λ (l : List TableInfo). AreCatalog l c.in-Some.indexes.items) c.as_slice-2.ensures.value
+    (subst (λ (l : List IndexInfo). AreCatalog c.as_slice-2.result.now l) c.as_slice-3.ensures.value (c.are_catalog.ensures.0 c.if-not-are_catalog.false)) in
     let spelled : Spells c.in_ok-chain.entries.items c.in-Some.tables.items c.in-Some.indexes.items =
-        subst (λ (l : List Entry). Spells l c.in-Some.tables.items c.in-Some.indexes.items) c.as_slice.ensures.value spells in (
+    subst (λ (l : List Entry). Spells l c.in-Some.tables.items c.in-Some.indexes.items) c.as_slice.ensures.value spells in (
       pages_of o.0,
       from_holds (g.P.Pages.map c.args.pages.now) (g.P.Pages.count c.args.pages.now) c.in_ok-chain.chain o.0 c.in-Some.tables.items c.in-Some.indexes.items c.in_ok-chain.ensures.first o.1
           (subst (λ (l : List Entry). Spells l c.in-Some.tables.items c.in-Some.indexes.items) o.2 spelled) valid,
@@ -67,7 +67,7 @@ returns-clause-held g c = λ tells tables indexes footprint free stored frees ap
     let o = c.in_ok-chain.ensures.linked tells in
     let spells = rw c.in-Some.is at c.in-Ok.ensures in
     let lists = stored_lists (g.P.Pages.map c.args.pages.now) (g.P.Pages.count c.args.pages.now) tables indexes footprint stored c.in_ok-chain.chain o.0 c.in_ok-chain.entries.items c.in-Some.tables.items
-        c.in-Some.indexes.items c.in_ok-chain.ensures.first o.1 o.2 (subst (λ (l : List Entry). Spells l c.in-Some.tables.items c.in-Some.indexes.items) c.as_slice.ensures.value spells) in
+    c.in-Some.indexes.items c.in_ok-chain.ensures.first o.1 o.2 (subst (λ (l : List Entry). Spells l c.in-Some.tables.items c.in-Some.indexes.items) c.as_slice.ensures.value spells) in
     let links = stored_links (g.P.Pages.map c.args.pages.now) (g.P.Pages.count c.args.pages.now) tables indexes footprint stored c.in_ok-chain.chain o.0 c.in_ok-chain.ensures.first o.1 in (
       lists.0,
       lists.1,

@@ -29,7 +29,7 @@ unreachable-requires g c =
     let view : Directory = record { chain = c.self.inside.chain; tables = c.self.inside.tables.items; indexes = c.self.inside.indexes.items } in
     let is : view ≡ c.args.self.now = cc in
     let among : IsAmong there.0 c.as_slice.result.now =
-        subst (λ (l : List TableInfo). IsAmong there.0 l) (ap (λ (d : Directory). d.tables) (sym is) ∙ sym c.as_slice.ensures.value) there.1 in
+    subst (λ (l : List TableInfo). IsAmong there.0 l) (ap (λ (d : Directory). d.tables) (sym is) ∙ sym c.as_slice.ensures.value) there.1 in
     let some = among_found (λ (t : TableInfo). t.number) (λ a b. a == b) Decides-eqb c.as_slice.result.now c.args.table there.0 among there.2 in
     let never : None ≡ Some some.found = c.in_default.ensures ∙ some.is in cc
 
