@@ -1,0 +1,5 @@
+pub mod Model
+pub mod Runs
+pub mod Times
+pub mod Engines
+pub mod Lending

@@ -1,0 +1,79 @@
+-- Runs: what the pieces of a script do, one after another.
+use Rattle.std.specs.Prelude.{◌≡◌, ◌≢◌, ◌⊎◌, ℕ, ◌+◌, ◌^◌, ◌≤◌, Bool, List, [], ◌∷◌, Option, None, is_some}
+use Rattle.std.specs.List.{flat_map, list_any}
+use Rattle.gx_engine.specs.Model.{Database, Session, Reply, Turned, Turns, refused_in, no_room, cost}
+
+-- Where a run is: its session, and the most pages that there can be, which is the first count and what every piece so
+-- far may have added.
+pub record State : Type 0 where
+  pub session : Session
+  pub pages : ℕ
+
+-- a piece that was done: what it was answered, and where the run is then
+pub record Done : Type 0 where
+  pub reply : Reply
+  pub after : State
+
+-- The statement is accepted by its turn, adds pages, and there may not be so many.
+pub record LacksRoom (pages : ℕ) (turned : Turned) : Type 0 where
+  pub accepted : turned.reply.fault ≡ None
+  pub grows : turned.growth ≢ 0
+  pub full : 2 ^ 50 ≤ pages + turned.growth
+
+-- A piece does in a session what its turn says, or is refused for want of room, and then changes nothing but an open
+-- block, which has failed.
+abbrev pub Answers : ℕ → Session → Turned → Reply → Session → Type 0
+Answers pages session turned reply after =
+    ((reply ≡ turned.reply) × (after ≡ turned.session))
+    ⊎ (LacksRoom pages turned × (reply ≡ no_room) × (after ≡ refused_in session))
+
+pub record Does (from : State) (piece : List ℕ) (done : Done) : Type 0 where
+  pub turned : Turned
+  pub turns : Turns from.session piece turned
+  pub answers : Answers from.pages from.session turned done.reply done.after.session
+  pub pages : done.after.pages ≡ from.pages + turned.growth
+
+-- These are the first pieces, done one after another.
+abbrev pub AreDone : State → List (List ℕ) → List Done → Type 0
+AreDone from pieces [] = Unit {0}
+AreDone from [] (done ∷ dones) = ⊥
+AreDone from (piece ∷ pieces) (done ∷ dones) = Does from piece done × AreDone done.after pieces dones
+
+-- where the run is after them
+abbrev pub after : State → List Done → State
+after from [] = from
+after from (done ∷ dones) = after done.after dones
+
+-- the committed database after them
+abbrev pub committed_after : State → List Done → Database
+committed_after from dones = (after from dones).session.committed
+
+-- the bytes of the replies, in order
+abbrev pub text_of : List Done → List ℕ
+text_of dones = flat_map (λ done. done.reply.bytes) dones
+
+-- Some reply is an error line.
+abbrev pub any_refused : List Done → Bool
+any_refused dones = list_any (λ done. is_some done.reply.fault) dones
+
+-- the cost of the pieces that were done, each in the session before it
+abbrev pub cost_of : State → List (List ℕ) → List Done → ℕ
+cost_of from [] dones = 0
+cost_of from (piece ∷ pieces) [] = 0
+cost_of from (piece ∷ pieces) (done ∷ dones) = cost from.session piece + cost_of done.after pieces dones
+
+-- the same, and the cost of the piece behind them, where there is one
+abbrev pub cost_begun : State → List (List ℕ) → List Done → ℕ
+cost_begun from [] dones = 0
+cost_begun from (piece ∷ pieces) [] = cost from.session piece
+cost_begun from (piece ∷ pieces) (done ∷ dones) = cost from.session piece + cost_begun done.after pieces dones
+
+-- the later of two replies: the bytes of this one, or the earlier bytes where it has none
+abbrev pub later_reply : List ℕ → List ℕ → List ℕ
+later_reply last [] = last
+later_reply last (b ∷ bs) = b ∷ bs
+
+-- the bytes of the last reply that has some, or the earlier bytes where there is none
+abbrev pub last_reply : List ℕ → List Done → List ℕ
+last_reply last [] = last
+last_reply last (done ∷ dones) = last_reply (later_reply last done.reply.bytes) dones

@@ -1,0 +1,8 @@
+//! The engine: it executes the pieces of a script, one at a time, on a database that stands on pages.
+#![tactic(auto)]
+
+mod engine;
+mod reply;
+
+pub use engine::{Engine, Kind};
+pub use reply::Reply;

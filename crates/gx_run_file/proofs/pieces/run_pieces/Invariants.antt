@@ -1,0 +1,18 @@
+use Rattle.std.proofs.Common.{◌≡◌, ℕ, ◌≤◌, Bool, true, List, ◌++◌, length, Ok}
+use Rattle.gx_engine.specs.Runs.{State}
+use Rattle.gx_run_file.specs.Moves.{Ran}
+use Rattle.gx_run_file.proofs.pieces.run_pieces.Given as goal
+
+abbrev pub invariant-loop-piece : goal.invariant-loop-piece
+invariant-loop-piece g l = record {
+  ready : g.D.Desk.ready l.desk;
+  follows : g.D.Desk.follows l.fn.desk l.desk;
+  ran : (front : List (List ℕ)) × (l.pieces ≡ front ++ l.rest)
+      × (g.D.Desk.tells → (from : State) → g.D.Desk.is_at l.fn.desk from
+      → Ran g.D.Desk.moment g.D.Desk.may_have_left_since g.D.Desk.may_leave g.D.Desk.said g.D.Desk.is_at g.D.Desk.emptied l.fn.desk l.desk from front (Ok l.refused));
+  disk : g.D.Desk.disk_faults l.fn.desk ≤ g.D.Desk.disk_faults l.desk;
+  answers : (g.D.Desk.said l.fn.desk).faults ≤ (g.D.Desk.said l.desk).faults;
+}
+
+abbrev pub decreases-loop-piece : goal.decreases-loop-piece
+decreases-loop-piece g l = length l.rest
