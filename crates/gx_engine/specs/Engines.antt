@@ -5,8 +5,11 @@ use Rattle.gx_words.specs.PageMap.{PageMap}
 use Rattle.gx_pages.specs.declared.store.Pages.{Ghosts}
 use Rattle.gx_pages.specs.Footprints.{StaysQuiet}
 use Rattle.gx_engine.specs.Times.{Between}
-use Rattle.gx_engine.specs.Model.{Database, StandsFor, Session, Block, Reply, Turned, Turns, seen}
-use Rattle.gx_engine.specs.Model.Block.{idle, begun, failed}
+use Rattle.gx_engine.specs.Database.{Database}
+use Rattle.gx_engine.specs.Holding.{StandsFor}
+use Rattle.gx_engine.specs.Replies.{Reply}
+use Rattle.gx_engine.specs.Turns.{Session, Block, Turned, Turns, seen}
+use Rattle.gx_engine.specs.Turns.Block.{idle, begun, failed}
 use Rattle.gx_engine.specs.Runs.{Answers}
 use Rattle.gx_engine.specs.declared.reply.Reply as code
 use Rattle.gx_engine.specs.declared.engine.Kind.{Kind}

@@ -1,13 +1,23 @@
 -- Runs: what the pieces of a script do, one after another.
 use Rattle.std.specs.Prelude.{◌≡◌, ◌≢◌, ◌⊎◌, ℕ, ◌+◌, ◌^◌, ◌≤◌, Bool, List, [], ◌∷◌, Option, None, is_some}
 use Rattle.std.specs.List.{flat_map, list_any}
-use Rattle.gx_engine.specs.Model.{Database, Session, Reply, Turned, Turns, refused_in, no_room, cost}
+use Rattle.gx_engine.specs.Database.{Database}
+use Rattle.gx_engine.specs.Replies.{Reply, refusal}
+use Rattle.gx_engine.specs.Turns.{Session, session_over, refused_in, Turned, Turns, TurnCosts}
 
 -- Where a run is: its session, and the most pages that there can be, which is the first count and what every piece so
 -- far may have added.
 pub record State : Type 0 where
   pub session : Session
   pub pages : ℕ
+
+-- where a run on a database with so many pages begins
+abbrev pub start : Database → ℕ → State
+start db pages = record { session = session_over db; pages = pages }
+
+-- the reply where there is no room for more pages
+abbrev pub no_room : Reply
+no_room = refusal 20
 
 -- a piece that was done: what it was answered, and where the run is then
 pub record Done : Type 0 where
@@ -56,24 +66,9 @@ text_of dones = flat_map (λ done. done.reply.bytes) dones
 abbrev pub any_refused : List Done → Bool
 any_refused dones = list_any (λ done. is_some done.reply.fault) dones
 
--- the cost of the pieces that were done, each in the session before it
-abbrev pub cost_of : State → List (List ℕ) → List Done → ℕ
-cost_of from [] dones = 0
-cost_of from (piece ∷ pieces) [] = 0
-cost_of from (piece ∷ pieces) (done ∷ dones) = cost from.session piece + cost_of done.after pieces dones
-
--- the same, and the cost of the piece behind them, where there is one
-abbrev pub cost_begun : State → List (List ℕ) → List Done → ℕ
-cost_begun from [] dones = 0
-cost_begun from (piece ∷ pieces) [] = cost from.session piece
-cost_begun from (piece ∷ pieces) (done ∷ dones) = cost from.session piece + cost_begun done.after pieces dones
-
--- the later of two replies: the bytes of this one, or the earlier bytes where it has none
-abbrev pub later_reply : List ℕ → List ℕ → List ℕ
-later_reply last [] = last
-later_reply last (b ∷ bs) = b ∷ bs
-
--- the bytes of the last reply that has some, or the earlier bytes where there is none
-abbrev pub last_reply : List ℕ → List Done → List ℕ
-last_reply last [] = last
-last_reply last (done ∷ dones) = last_reply (later_reply last done.reply.bytes) dones
+-- the most heap pages that the pieces fetch that were done, and the one behind them, if it was begun
+abbrev pub CostsOfRun : State → List (List ℕ) → List Done → ℕ → Type 0
+CostsOfRun from [] dones cost = cost ≡ 0
+CostsOfRun from (piece ∷ pieces) [] cost = TurnCosts from.session piece cost
+CostsOfRun from (piece ∷ pieces) (done ∷ dones) cost =
+    (first : ℕ) × (others : ℕ) × TurnCosts from.session piece first × CostsOfRun done.after pieces dones others × (cost ≡ first + others)

@@ -4,7 +4,9 @@ ghost use Rattle.std.specs.Prelude.{◌≡◌, ◌≢◌, ◌⊎◌, ◌↔◌, 
 ghost use Rattle.gx_words.specs.Causes.{Rose};
 ghost use Rattle.gx_lexer.specs.Feeding.{piece_of};
 ghost use Rattle.gx_pages.specs.Pages.{HasCause};
-ghost use Rattle.gx_engine.specs.Model.{Database, StandsFor, Session, cost};
+ghost use Rattle.gx_engine.specs.Database.{Database};
+ghost use Rattle.gx_engine.specs.Holding.{StandsFor};
+ghost use Rattle.gx_engine.specs.Turns.{Session, TurnCosts};
 ghost use Rattle.gx_engine.specs.Engines.{IsIn, WasRead, Executed, Stopped, Unmade, reply_of, checkpoint_reply};
 
 use crate::reply::Reply;
@@ -78,7 +80,7 @@ impl<P: Store> Engine<P> {
 
         // How many heap pages were fetched.
         ensures least { P.heap_fetches self.new.store + _steps.old ≤ P.heap_fetches self.old.store + _steps.new }
-        ensures most { P.tells → (session : Session) (text : List ℕ) → IsIn P.Pages self.old.store self.old.kind session → piece_of text ≡ _piece.now → _steps.new ≤ _steps.old + cost session text }
+        ensures most { P.tells → (session : Session) (text : List ℕ) → IsIn P.Pages self.old.store self.old.kind session → piece_of text ≡ _piece.now → (n : ℕ) → TurnCosts session text n → _steps.new ≤ _steps.old + n }
 
         // A piece without a reply, and CHECKPOINT, which is accepted outside a block alone, don't call the store.
         ensures silent { IfOk result (λ reply. reply.bytes ≡ [] → self.new.store ≡ self.old.store) }
