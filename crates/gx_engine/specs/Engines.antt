@@ -3,7 +3,6 @@ use Rattle.std.specs.Prelude.{◌≡◌, ◌≢◌, ◌⊎◌, ℕ, ◌+◌, ◌
 use Rattle.gx_words.specs.Moments.{Moment}
 use Rattle.gx_words.specs.PageMap.{PageMap}
 use Rattle.gx_pages.specs.declared.store.Pages.{Ghosts}
-use Rattle.gx_pages.specs.Footprints.{StaysQuiet}
 use Rattle.gx_engine.specs.Times.{Between}
 use Rattle.gx_engine.specs.Database.{Database}
 use Rattle.gx_engine.specs.Holding.{StandsFor}
@@ -36,12 +35,6 @@ pub record IsIn {P : Type 0} (g : Ghosts P) (store : P) (kind : Kind) (session :
 pub record HasAtMost {P : Type 0} (g : Ghosts P) (store : P) (pages : ℕ) : Type 0 where
   pub now : g.count store ≤ pages
   pub committed : g.committed_count store ≤ pages
-
--- The store was read at most: its map, its count and all that a call of pages leaves are as they were.
-pub record WasRead {P : Type 0} (g : Ghosts P) (old new : P) : Type 0 where
-  pub map : g.map new ≡ g.map old
-  pub count : g.count new ≡ g.count old
-  pub quiet : StaysQuiet g old new
 
 -- The piece was executed: it was answered by its turn, or there was no room, and the store stands for the next session.
 -- At each moment a crash leaves a committed map of before, or one that stands for the next committed database, and

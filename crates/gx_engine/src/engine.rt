@@ -4,10 +4,8 @@ ghost use Rattle.std.specs.Prelude.{◌≡◌, ◌≢◌, ◌⊎◌, ◌↔◌, 
 ghost use Rattle.gx_words.specs.Causes.{Rose};
 ghost use Rattle.gx_lexer.specs.Feeding.{piece_of};
 ghost use Rattle.gx_pages.specs.Pages.{HasCause};
-ghost use Rattle.gx_engine.specs.Database.{Database};
-ghost use Rattle.gx_engine.specs.Holding.{StandsFor};
 ghost use Rattle.gx_engine.specs.Turns.{Session, TurnCosts};
-ghost use Rattle.gx_engine.specs.Engines.{IsIn, WasRead, Executed, Stopped, Unmade, reply_of, checkpoint_reply};
+ghost use Rattle.gx_engine.specs.Engines.{IsIn, Executed, Stopped, Unmade, reply_of, checkpoint_reply};
 
 use crate::reply::Reply;
 use gx_lexer::Piece;
@@ -39,14 +37,12 @@ impl<P: Store> Engine<P> {
     ghost use Rattle.std.specs.Borrow.{sem};
     ghost use Rattle.gx_engine.specs.Lending.{lends_store};
 
-    /// An engine over a store whose map is the committed one. No block is open. An error hands the store back; it is
-    /// a failure of the disk, a store that holds no database, or want of memory.
+    /// An engine over a store whose map is the committed one. No block is open. It doesn't call the store; where there is
+    /// no memory, it hands the store back.
     pub fn open(alloc: Global, store: P) -> Result<Engine<P>, (P, PageError)>
         requires { P.spoiled store ≡ false }
-        ensures read { IfOk result (λ engine. WasRead P.Pages store engine.store) }
-        ensures idle { IfOk result (λ engine. (engine.kind ≡ Kind.Idle) × (engine.ended ≡ false)) }
-        ensures back { IfErr result (λ x. WasRead P.Pages store x.0) }
-        ensures cause { IfErr result (λ x. HasCause (P.faults store) (P.faults x.0) (λ at expected found. P.tells → (db : Database) → StandsFor (P.map store) db → ⊥) (λ _. ⊥) (Unit {0}) x.1) }
+        ensures over { IfOk result (λ engine. (engine.store ≡ store) × (engine.kind ≡ Kind.Idle) × (engine.ended ≡ false)) }
+        ensures back { IfErr result (λ x. (x.0 ≡ store) × (x.1 ≡ PageError.Memory)) }
     {
         Ok(Engine {
             alloc,
