@@ -1,14 +1,15 @@
 -- What an engine's contract gives its caller.
-use Rattle.std.proofs.Common.{◌≡◌, ◌⊎◌, inl, inr, ℕ, ◌+◌, ◌^◌, ◌≤◌, List, [], ◌∷◌, refl, sym, ◌∙◌, ap, subst, arith}
-use Rattle.gx_words.specs.Moments.{Moment}
+use Rattle.std.proofs.Common.{◌≡◌, ◌⊎◌, inl, inr, ℕ, ◌+◌, ◌≤◌, List, [], ◌∷◌, Result, Ok, Err, OnOk, refl, sym, subst, arith}
+use Rattle.gx_words.specs.Moments.{Now}
 use Rattle.gx_engine.specs.Times.{Between}
 use Rattle.gx_words.specs.PageMap.{PageMap}
 use Rattle.gx_pages.specs.declared.store.Pages.{Ghosts}
-use Rattle.gx_engine.specs.Model.{StandsFor, Session, Turned}
+use Rattle.gx_engine.specs.Holding.{StandsFor}
+use Rattle.gx_engine.specs.Turns.{Session, Turned, seen}
+use Rattle.gx_engine.specs.Replies.{Reply}
 use Rattle.gx_engine.specs.Runs.{State, Done, Does, AreDone, Answers, committed_after}
-use Rattle.gx_engine.specs.Engines.{IsIn, HasAtMost, Executed, Stopped, Unmade, LeavesOr}
+use Rattle.gx_engine.specs.Engines.{IsIn, HasAtMost, Executed, Stopped, Unmade}
 use Rattle.gx_run_file.specs.Moves.{OneOf}
-use Rattle.gx_engine.specs.Model.{Reply}
 use Rattle.gx_engine.specs.declared.engine.Kind.{Kind}
 use Rattle.gx_run_file.proofs.RunFacts.{becomes}
 
@@ -58,3 +59,32 @@ module _ {P : Type 0} (g : Ghosts P) (old new : P) (kind : Kind) (from : State) 
             (OneOf from.session.committed s.turned.session.committed (g.said old).bytes)
             (λ m h. (elim h.0 [ inl was ↦ inl (is_in.left m.image was) | inr is ↦ inr is ], h.1)) s.time,
       )
+
+-- where a store's maps and counts stay, and a crash leaves nothing new, the session stays
+pub stays_in : {P : Type 0} (g : Ghosts P) (old new : P) (kind : Kind) (from : State) → IsIn g old kind from.session × HasAtMost g old from.pages → g.map new ≡ g.map old → g.count new ≡ g.count old
+    → g.committed new ≡ g.committed old → g.committed_count new ≡ g.committed_count old → ((map : PageMap) → g.may_leave new map → g.may_leave old map)
+    → IsIn g new kind from.session × HasAtMost g new from.pages
+stays_in g old new kind from at map count committed committed_count images =
+    let Seen : PageMap → Type 0 = λ m. StandsFor m (seen from.session) in
+    let Made : PageMap → Type 0 = λ m. StandsFor m from.session.committed in
+    let a = at.1.now in
+    let b = at.1.committed in (
+      record { block = at.0.block; committed = subst Made (sym committed) at.0.committed; map = subst Seen (sym map) at.0.map; left = λ m l. at.0.left m (images m l) },
+      record { now = omega (arith, a, count); committed = omega (arith, b, committed_count) },
+    )
+
+-- at each moment a crash left what it could leave before
+pub stays_made : {P : Type 0} (g : Ghosts P) (old new : P) (kind : Kind) (session : Session) → IsIn g old kind session
+    → Between g.moment g.may_have_left_since old new (Now (g.may_leave old) (g.said old).bytes)
+    → Between g.moment g.may_have_left_since old new (OneOf session.committed session.committed (g.said old).bytes)
+stays_made g old new kind session is_in time =
+    becomes g.moment g.may_have_left_since old new (Now (g.may_leave old) (g.said old).bytes) (OneOf session.committed session.committed (g.said old).bytes)
+    (λ m h. (inl (is_in.left m.image h.0), h.1)) time
+
+pub on_ok : {T E : Type 0} (result : Result T E) (P : Type 0) → P → OnOk result P
+on_ok (Ok value) P p = p
+on_ok (Err error) P p = tt
+
+pub on_ok_then : {T E : Type 0} (result : Result T E) (P Q : Type 0) → (P → Q) → OnOk result P → OnOk result Q
+on_ok_then (Ok value) P Q f p = f p
+on_ok_then (Err error) P Q f p = tt

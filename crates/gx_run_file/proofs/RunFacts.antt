@@ -1,5 +1,5 @@
 -- Runs of pieces, one behind another.
-use Rattle.std.proofs.Common.{◌≡◌, ◌≢◌, ◌⊎◌, inl, inr, ℕ, ◌+◌, ◌≤◌, zero, suc, Bool, true, false, ◌||◌, List, [], ◌∷◌, ◌++◌, length, take, ◌==◌, Result, Ok, Err, IfOk, is_some, refl, sym, ◌∙◌, ap, subst, append_assoc, length-append, arith}
+use Rattle.std.proofs.Common.{◌≡◌, ◌⊎◌, inl, inr, ℕ, ◌+◌, ◌≤◌, Bool, true, false, ◌||◌, List, [], ◌∷◌, ◌++◌, length, take, ◌==◌, Result, Ok, Err, IfOk, is_some, refl, sym, ◌∙◌, ap, subst, append_assoc, length-append, arith}
 use Rattle.std.proofs.Math.Seq.{take-append-add}
 use Rattle.std.proofs.lemmas.List.{append-nil, take-append-le}
 use Rattle.std.proofs.lemmas.List.Concat.{flat_map-append}
@@ -10,11 +10,15 @@ use Rattle.gx_words.specs.Causes.{Said}
 use Rattle.gx_words.specs.Moments.{Moment}
 use Rattle.gx_engine.specs.Times.{Between}
 use Rattle.gx_words.specs.PageMap.{PageMap}
-use Rattle.gx_engine.specs.Model.{Database, StandsFor}
-use Rattle.gx_engine.specs.Runs.{State, Done, Does, AreDone, after, committed_after, text_of, any_refused}
-use Rattle.gx_run_file.specs.Headline.{AnyMoment, AllStand, Whole, DiskFailed, AnswerFailed, LackedMemory, EndsSo}
-use Rattle.gx_run_file.specs.Moves.{OneOf, While, Ran}
-use Rattle.gx_lexer.specs.Cut.{cut, cut_from}
+use Rattle.gx_engine.specs.Database.{Database}
+use Rattle.gx_engine.specs.Holding.{StandsFor}
+use Rattle.gx_engine.specs.Turns.{TurnCosts}
+use Rattle.gx_engine.specs.Runs.{State, Done, Does, AreDone, after, committed_after, text_of, any_refused, CostsOfRun}
+use Rattle.gx_run_file.specs.Replied.{later_reply, last_reply}
+use Rattle.gx_engine.specs.Engines.{checkpoint_reply}
+use Rattle.gx_run_file.specs.Headline.{AnyMoment, AllStand, EndsSo}
+use Rattle.gx_run_file.specs.Moves.{OneOf, While, Ran, Empties, Spent}
+use Rattle.gx_lexer.specs.Cut.{cut, cut_in}
 use Rattle.gx_run_file.specs.declared.stop.Stop.{Stop}
 use Rattle.gx_run_file.specs.declared.stop.Stop.TheVariants.{Answer, Disk, Memory, Broken}
 
@@ -106,21 +110,117 @@ moment_later stands from before ds es m a =
       answered = rw (e, t) (a.answered ∙ append_assoc before (text_of ds) (take a.n (text_of (take a.k es))));
     }
 
-abbrev pub RanOk : {D : Type 0} → (D → ℕ) → (D → ℕ → Moment PageMap → Type 0) → (D → PageMap → Type 0) → (D → Said) → (D → State → Type 0) → D → D → State → List (List ℕ) → Bool → Type 0
-RanOk moment since leaves said is_at emptied old new from pieces refused = Ran moment since leaves said is_at emptied old new from pieces (Ok refused)
+abbrev pub RanOk : {D : Type 0} → (D → ℕ) → (D → ℕ → Moment PageMap → Type 0) → (D → PageMap → Type 0) → (D → Said) → (D → State → Type 0) → (D → Type 0) → ℕ → ℕ → D → D → State → List (List ℕ) → Bool → Type 0
+RanOk moment since leaves said is_at emptied s t old new from pieces refused = Ran moment since leaves said is_at emptied s t old new from pieces (Ok refused)
 
 abbrev pub Saying : {D : Type 0} → (D → ℕ) → (D → ℕ → Moment PageMap → Type 0) → (D → Said) → D → D → State → List ℕ → Type 0
 Saying moment since said old new at more = Between moment since old new (While at.session.committed (said old).bytes more)
 
-abbrev pub RanErr : {D : Type 0} → (D → ℕ) → (D → ℕ → Moment PageMap → Type 0) → (D → PageMap → Type 0) → (D → Said) → (D → State → Type 0) → D → D → State → List (List ℕ) → Stop → Type 0
-RanErr moment since leaves said is_at emptied old new from pieces stop = Ran moment since leaves said is_at emptied old new from pieces (Err stop)
+abbrev pub RanErr : {D : Type 0} → (D → ℕ) → (D → ℕ → Moment PageMap → Type 0) → (D → PageMap → Type 0) → (D → Said) → (D → State → Type 0) → (D → Type 0) → ℕ → ℕ → D → D → State → List (List ℕ) → Stop → Type 0
+RanErr moment since leaves said is_at emptied s t old new from pieces stop = Ran moment since leaves said is_at emptied s t old new from pieces (Err stop)
 
-abbrev pub RanAs : {D : Type 0} → (D → ℕ) → (D → ℕ → Moment PageMap → Type 0) → (D → PageMap → Type 0) → (D → Said) → (D → State → Type 0) → D → D → State → List (List ℕ) → Result Bool Stop → Type 0
-RanAs moment since leaves said is_at emptied old new from pieces result = Ran moment since leaves said is_at emptied old new from pieces result
+abbrev pub RanAs : {D : Type 0} → (D → ℕ) → (D → ℕ → Moment PageMap → Type 0) → (D → PageMap → Type 0) → (D → Said) → (D → State → Type 0) → (D → Type 0) → ℕ → ℕ → D → D → State → List (List ℕ) → Result Bool Stop → Type 0
+RanAs moment since leaves said is_at emptied s t old new from pieces result = Ran moment since leaves said is_at emptied s t old new from pieces result
 
 abbrev pub then_ends : Bool → Result Bool Stop → Result Bool Stop
 then_ends refused (Ok one) = Ok (refused || one)
 then_ends refused (Err stop) = Err stop
+
+-- the cost of pieces, and of others behind them
+pub record Costs (from : State) (ps qs : List (List ℕ)) (ds es : List Done) (n : ℕ) : Type 0 where
+  pub first : ℕ
+  pub second : ℕ
+  pub of_first : CostsOfRun from ps ds first
+  pub of_second : CostsOfRun (after from ds) qs es second
+  pub both : n ≡ first + second
+
+costs : (from : State) (ps qs : List (List ℕ)) (ds es : List Done) (n : ℕ) → length ds ≡ length ps → CostsOfRun from (ps ++ qs) (ds ++ es) n → Costs from ps qs ds es n
+costs from [] qs [] es n l c = record { first = 0; second = n; of_first = refl; of_second = c; both = omega arith }
+costs from [] qs (d ∷ ds) es n l c = absurd (omega (arith, l))
+costs from (p ∷ ps) qs [] es n l c = absurd (omega (arith, l))
+costs from (p ∷ ps) qs (d ∷ ds) es n l c =
+    let k = costs d.after ps qs ds es c.1 (omega (arith, l)) c.3 in
+    let e = c.4 in
+    let b = k.both in
+    record { first = c.0 + k.first; second = k.second; of_first = (c.0, k.first, c.2, k.of_first, refl); of_second = k.of_second; both = omega (arith, e, b) }
+
+costs_more : (from : State) (ps qs : List (List ℕ)) (ds : List Done) (n : ℕ) → AreDone from ps ds → CostsOfRun from (ps ++ qs) ds n → (m : ℕ) × CostsOfRun from ps ds m × (m ≤ n)
+costs_more from [] qs [] n a c = (0, refl, omega arith)
+costs_more from [] qs (d ∷ ds) n a c = absurd a
+costs_more from (p ∷ ps) qs [] n a c = (n, c, omega arith)
+costs_more from (p ∷ ps) qs (d ∷ ds) n a c =
+    let k = costs_more d.after ps qs ds c.1 a.1 c.3 in
+    let e = c.4 in
+    let l = k.2 in
+    (c.0 + k.0, (c.0, k.0, c.2, k.1, refl), omega (arith, e, l))
+
+no_more : (from : State) (ps : List (List ℕ)) (ds : List Done) → AreDone from ps ds → length ds ≤ length ps
+no_more from ps [] a = omega arith
+no_more from [] (d ∷ ds) a = absurd a
+no_more from (p ∷ ps) (d ∷ ds) a = let h = no_more d.after ps ds a.1 in omega (arith, h)
+
+-- one piece, done or not
+spent_one : (from : State) (piece : List ℕ) (ones : List Done) (s t : ℕ) → ((n : ℕ) → TurnCosts from.session piece n → t ≤ s + n) → (n : ℕ) → CostsOfRun from (piece ∷ []) ones n → t ≤ s + n
+spent_one from piece [] s t h n c = h n c
+spent_one from piece (one ∷ ones) s t h n c = let l = h c.0 c.2 in let e = c.4 in omega (arith, l, e)
+
+spent_by : (from : State) (ps qs : List (List ℕ)) (ds es : List Done) (s m t : ℕ) → length ds ≡ length ps
+    → ((n : ℕ) → CostsOfRun from ps ds n → m ≤ s + n) → ((n : ℕ) → CostsOfRun (after from ds) qs es n → t ≤ m + n) → (n : ℕ) → CostsOfRun from (ps ++ qs) (ds ++ es) n → t ≤ s + n
+spent_by from ps qs ds es s m t l a b n c =
+    let k = costs from ps qs ds es n l c in
+    let x = a k.first k.of_first in
+    let y = b k.second k.of_second in
+    let e = k.both in
+    omega (arith, x, y, e)
+
+spent_then : (from : State) (ps qs : List (List ℕ)) (ds es : List Done) (s m t : ℕ) (refused : Bool) (result : Result Bool Stop) → length ds ≡ length ps
+    → Spent from ps ds s m (Ok refused) → Spent (after from ds) qs es m t result → Spent from (ps ++ qs) (ds ++ es) s t (then_ends refused result)
+spent_then from ps qs ds es s m t refused (Ok one) l a b = spent_by from ps qs ds es s m t l a b
+spent_then from ps qs ds es s m t refused (Err Answer) l a b = λ n c.
+    let e : take (length (ds ++ es)) (ps ++ qs) ≡ ps ++ take (length es) qs =
+    ap (λ (k : ℕ). take k (ps ++ qs)) (length-append ds es ∙ ap (λ (k : ℕ). k + length es) l) ∙ take-append-add ps qs (length es) in
+    let P : List (List ℕ) → Type 0 = λ all. CostsOfRun from all (ds ++ es) n in
+    spent_by from ps (take (length es) qs) ds es s m t l a b n (subst P e c)
+spent_then from ps qs ds es s m t refused (Err Disk) l a b = spent_by from ps qs ds es s m t l a b
+spent_then from ps qs ds es s m t refused (Err Memory) l a b = spent_by from ps qs ds es s m t l a b
+spent_then from ps qs ds es s m t refused (Err (Broken page expected found)) l a b = spent_by from ps qs ds es s m t l a b
+
+spent_over : (from : State) (ps qs : List (List ℕ)) (ds : List Done) (s t : ℕ) → AreDone from ps ds → ((n : ℕ) → CostsOfRun from ps ds n → t ≤ s + n)
+    → (n : ℕ) → CostsOfRun from (ps ++ qs) ds n → t ≤ s + n
+spent_over from ps qs ds s t a b n c =
+    let k = costs_more from ps qs ds n a c in
+    let x = b k.0 k.1 in
+    let l = k.2 in
+    omega (arith, x, l)
+
+spent_more : (from : State) (ps qs : List (List ℕ)) (ds : List Done) (s t : ℕ) (stop : Stop) → AreDone from ps ds → Spent from ps ds s t (Err stop) → Spent from (ps ++ qs) ds s t (Err stop)
+spent_more from ps qs ds s t Answer a b = λ n c.
+    let P : List (List ℕ) → Type 0 = λ all. CostsOfRun from all ds n in
+    b n (subst P (take-append-le (length ds) ps qs (no_more from ps ds a)) c)
+spent_more from ps qs ds s t Disk a b = spent_over from ps qs ds s t a b
+spent_more from ps qs ds s t Memory a b = spent_over from ps qs ds s t a b
+spent_more from ps qs ds s t (Broken page expected found) a b = spent_over from ps qs ds s t a b
+
+-- the last reply, and whether the log is empty then
+last-append : (last : List ℕ) (ds es : List Done) → last_reply last (ds ++ es) ≡ last_reply (last_reply last ds) es
+last-append last [] es = refl
+last-append last (d ∷ ds) es = last-append (later_reply last d.reply.bytes) ds es
+
+empties_then : (ds es : List Done) (A B C : Type 0) (refused : Bool) (result : Result Bool Stop) → Empties ds A B → IfOk result (λ one. Empties es B C)
+    → IfOk (then_ends refused result) (λ one. Empties (ds ++ es) A C)
+empties_then ds es A B C refused (Ok one) a b = λ last h e. b (last_reply last ds) (λ is. a last h is) (sym (last-append last ds es) ∙ e)
+empties_then ds es A B C refused (Err stop) a b = tt
+
+empties_after : (ds : List Done) (A B C : Type 0) (result : Result Bool Stop) → (A → B) → IfOk result (λ one. Empties ds B C) → IfOk result (λ one. Empties ds A C)
+empties_after ds A B C (Ok one) k a = λ last h e. a last (λ is. k (h is)) e
+empties_after ds A B C (Err stop) k a = tt
+
+empties_by : (last bytes : List ℕ) (A B : Type 0) → (bytes ≡ [] → A → B) → (bytes ≡ checkpoint_reply → B) → (last ≡ checkpoint_reply → A) → later_reply last bytes ≡ checkpoint_reply → B
+empties_by last [] A B silent spoken h e = silent refl (h e)
+empties_by last (b ∷ bs) A B silent spoken h e = spoken e
+
+one_empties : (one : Done) (A B : Type 0) → (one.reply.bytes ≡ [] → A → B) → (one.reply.bytes ≡ checkpoint_reply → B) → Empties (one ∷ []) A B
+one_empties one A B silent spoken = λ last h e. empties_by last one.reply.bytes A B silent spoken h e
 
 module _ {C : Type 0} (stands : C → Database → Type 0) (leaves : C → Type 0) (from : State) (ds es : List Done) (before mid now : List ℕ) (said : mid ≡ before ++ text_of ds) where
   answered_all : (rs : List Done) → now ≡ mid ++ text_of rs → now ≡ before ++ text_of (ds ++ rs)
@@ -208,14 +308,14 @@ module _ {D : Type 0} (moment : D → ℕ) (since : D → ℕ → Moment PageMap
   at_then new from ds es refused (Err stop) r a = tt
 
   -- where pieces end
-  abbrev pub behind : (old new : D) (from : State) (ps : List (List ℕ)) (refused : Bool) → Ran moment since leaves said is_at emptied old new from ps (Ok refused) → State
+  abbrev pub behind : {s t : ℕ} (old new : D) (from : State) (ps : List (List ℕ)) (refused : Bool) → Ran moment since leaves said is_at emptied s t old new from ps (Ok refused) → State
   behind old new from ps refused ran = after from ran.dones
 
   -- pieces, and then others
-  pub ran_then : (old mid new : D) (from : State) (ps qs : List (List ℕ)) (refused : Bool) (result : Result Bool Stop)
-      → (first : Ran moment since leaves said is_at emptied old mid from ps (Ok refused)) → Ran moment since leaves said is_at emptied mid new (after from first.dones) qs result
-      → Ran moment since leaves said is_at emptied old new from (ps ++ qs) (then_ends refused result)
-  ran_then old mid new from ps qs refused result first second =
+  pub ran_then : {s m t : ℕ} (old mid new : D) (from : State) (ps qs : List (List ℕ)) (refused : Bool) (result : Result Bool Stop)
+      → (first : Ran moment since leaves said is_at emptied s m old mid from ps (Ok refused)) → Ran moment since leaves said is_at emptied m t mid new (after from first.dones) qs result
+      → Ran moment since leaves said is_at emptied s t old new from (ps ++ qs) (then_ends refused result)
+  ran_then {s} {m} {t} old mid new from ps qs refused result first second =
       let ds = first.dones in
       let es = second.dones in
       let before = (said old).bytes in
@@ -231,28 +331,34 @@ module _ {D : Type 0} (moment : D → ℕ) (since : D → ℕ → Moment PageMap
         ends = subst ends (sym (length-append ps qs))
             (ends_then StandsFor (leaves new) from ds es before (said mid).bytes (said new).bytes spoken (length ps) (length qs) refused result first.ends.all second.ends);
         at = at_then new from ds es refused result first.at.0 second.at;
+        empties = empties_then ds es (emptied old) (emptied mid) (emptied new) refused result first.empties second.empties;
+        spent = spent_then from ps qs ds es s m t refused result first.ends.all first.spent second.spent;
       }
 
   -- pieces of which one stopped the run, and others behind them
-  pub ran_more : (old new : D) (from : State) (ps qs : List (List ℕ)) (stop : Stop)
-      → Ran moment since leaves said is_at emptied old new from ps (Err stop) → Ran moment since leaves said is_at emptied old new from (ps ++ qs) (Err stop)
-  ran_more old new from ps qs stop ran = record {
+  pub ran_more : {s t : ℕ} (old new : D) (from : State) (ps qs : List (List ℕ)) (stop : Stop)
+      → Ran moment since leaves said is_at emptied s t old new from ps (Err stop) → Ran moment since leaves said is_at emptied s t old new from (ps ++ qs) (Err stop)
+  ran_more {s} {t} old new from ps qs stop ran = record {
     dones = ran.dones;
     done = done-more from ps qs ran.dones ran.done;
     moments = ran.moments;
     ends = ends_more StandsFor (leaves new) from (length ps) (length (ps ++ qs)) ran.dones (said old).bytes (said new).bytes stop ran.ends;
     at = tt;
+    empties = tt;
+    spent = spent_more from ps qs ran.dones s t stop ran.done ran.spent;
   }
 
   -- no piece
-  pub ran_none : (old : D) (from : State) → ((map : PageMap) → leaves old map → StandsFor map from.session.committed) → is_at old from
-      → Ran moment since leaves said is_at emptied old old from [] (Ok false)
+  pub ran_none : {s : ℕ} (old : D) (from : State) → ((map : PageMap) → leaves old map → StandsFor map from.session.committed) → is_at old from
+      → Ran moment since leaves said is_at emptied s s old old from [] (Ok false)
   ran_none old from left at = record {
     dones = [];
     done = tt;
     moments = record { later = omega arith; nothing_else = λ t m le s. inl s; keeps = λ t m le s. s };
     ends = record { all = refl; answered = sym (append-nil (said old).bytes); left = left };
     at = (refl, at);
+    empties = λ last h e. h e;
+    spent = λ n c. omega arith;
   }
 
   module _ (old new : D) (from : State) (same : said new ≡ said old) where
@@ -266,32 +372,34 @@ module _ {D : Type 0} (moment : D → ℕ) (since : D → ℕ → Moment PageMap
       still = becomes moment since old new (OneOf from.session.committed from.session.committed (said old).bytes) (AnyMoment StandsFor from (said old).bytes [])
           (λ m h. none_of from (said old).bytes m h) time
 
-      pub settled : is_at new from → Ran moment since leaves said is_at emptied old new from [] (Ok false)
-      settled at = record { dones = []; done = tt; moments = still; ends = record { all = refl; answered = spoken; left = left }; at = (refl, at) }
-
-      pub not_settled : (pieces : List (List ℕ)) → Ran moment since leaves said is_at emptied old new from pieces (Err Disk)
+      pub not_settled : {s : ℕ} (pieces : List (List ℕ)) → Ran moment since leaves said is_at emptied s s old new from pieces (Err Disk)
       not_settled pieces = record {
         dones = [];
         done = tt;
         moments = still;
         ends = record { k = 0; least = omega arith; most = omega arith; answered = spoken; left = λ map l. inl (left map l) };
         at = tt;
+        empties = tt;
+        spent = λ n c. omega arith;
       }
 
-      pub without_memory : (pieces : List (List ℕ)) → Ran moment since leaves said is_at emptied old new from pieces (Err Memory)
-      without_memory pieces = record { dones = []; done = tt; moments = still; ends = record { answered = spoken; left = left }; at = tt }
+      pub without_memory : {s t : ℕ} (pieces : List (List ℕ)) → ((n : ℕ) → CostsOfRun from pieces [] n → t ≤ s + n) → Ran moment since leaves said is_at emptied s t old new from pieces (Err Memory)
+      without_memory pieces spent = record { dones = []; done = tt; moments = still; ends = record { answered = spoken; left = left }; at = tt; empties = tt; spent = spent }
 
-    pub not_executed : (piece : List ℕ) (ones : List Done) → AreDone from (piece ∷ []) ones
+    pub not_executed : {s t : ℕ} (piece : List ℕ) (ones : List Done) → AreDone from (piece ∷ []) ones
         → ((map : PageMap) → leaves new map → StandsFor map from.session.committed ⊎ StandsFor map (committed_after from ones))
         → Between moment since old new (OneOf from.session.committed (committed_after from ones) (said old).bytes)
-        → Ran moment since leaves said is_at emptied old new from (piece ∷ []) (Err Disk)
-    not_executed piece ones done left time = record {
+        → ((n : ℕ) → TurnCosts from.session piece n → t ≤ s + n)
+        → Ran moment since leaves said is_at emptied s t old new from (piece ∷ []) (Err Disk)
+    not_executed piece ones done left time spent = record {
       dones = ones;
       done = done;
       moments = becomes moment since old new (OneOf from.session.committed (committed_after from ones) (said old).bytes) (AnyMoment StandsFor from (said old).bytes ones)
           (λ m h. of_stopped from ones (said old).bytes m h) time;
       ends = let one = at_most_one from piece ones done in record { k = 0; least = omega arith; most = omega (arith, one); answered = spoken; left = left };
       at = tt;
+      empties = tt;
+      spent = spent_one from piece ones _ _ spent;
     }
 
     module _ (piece : List ℕ) (one : Done) (does : Does from piece one)
@@ -301,14 +409,17 @@ module _ {D : Type 0} (moment : D → ℕ) (since : D → ℕ → Moment PageMap
           (λ m h. of_execute from one (said old).bytes m h) time
 
       -- a piece without a reply
-      pub executed : one.reply.bytes ≡ [] → ((map : PageMap) → leaves new map → StandsFor map one.after.session.committed) → is_at new one.after
-          → Ran moment since leaves said is_at emptied old new from (piece ∷ []) (Ok (is_some one.reply.fault))
-      executed empty left at = record {
+      pub executed : {s t : ℕ} → one.reply.bytes ≡ [] → ((map : PageMap) → leaves new map → StandsFor map one.after.session.committed) → is_at new one.after
+          → ((n : ℕ) → TurnCosts from.session piece n → t ≤ s + n) → (one.reply.bytes ≡ [] → emptied old → emptied new) → (one.reply.bytes ≡ checkpoint_reply → emptied new)
+          → Ran moment since leaves said is_at emptied s t old new from (piece ∷ []) (Ok (is_some one.reply.fault))
+      executed empty left at spent silent clean = record {
         dones = one ∷ [];
         done = (does, tt);
         moments = within;
         ends = record { all = refl; answered = spoken ∙ ap (λ (text : List ℕ). (said old).bytes ++ (text ++ [])) (sym empty); left = left };
         at = (sym (or_false (is_some one.reply.fault)), at);
+        empties = one_empties one (emptied old) (emptied new) silent clean;
+        spent = spent_one from piece (one ∷ []) _ _ spent;
       }
 
       module _ (last : D) (left : (map : PageMap) → leaves last map → StandsFor map one.after.session.committed)
@@ -319,9 +430,10 @@ module _ {D : Type 0} (moment : D → ℕ) (since : D → ℕ → Moment PageMap
             (λ m h. let P : Said → Type 0 = λ s. While one.after.session.committed s.bytes one.reply.bytes m in of_answer from one (said old).bytes m (subst P same h))
             within later
 
-        pub answered : (said last).bytes ≡ (said new).bytes ++ one.reply.bytes → is_at last one.after
-            → Ran moment since leaves said is_at emptied old last from (piece ∷ []) (Ok (is_some one.reply.fault))
-        answered told at = record {
+        pub answered : {s t : ℕ} → (said last).bytes ≡ (said new).bytes ++ one.reply.bytes → is_at last one.after
+            → ((n : ℕ) → TurnCosts from.session piece n → t ≤ s + n) → (one.reply.bytes ≡ [] → emptied old → emptied last) → (one.reply.bytes ≡ checkpoint_reply → emptied last)
+            → Ran moment since leaves said is_at emptied s t old last from (piece ∷ []) (Ok (is_some one.reply.fault))
+        answered told at spent silent clean = record {
           dones = one ∷ [];
           done = (does, tt);
           moments = both;
@@ -331,11 +443,13 @@ module _ {D : Type 0} (moment : D → ℕ) (since : D → ℕ → Moment PageMap
             left = left;
           };
           at = (sym (or_false (is_some one.reply.fault)), at);
+          empties = one_empties one (emptied old) (emptied last) silent clean;
+          spent = spent_one from piece (one ∷ []) _ _ spent;
         }
 
-        pub not_answered : (n : ℕ) → (said last).bytes ≡ (said new).bytes ++ take n one.reply.bytes
-            → Ran moment since leaves said is_at emptied old last from (piece ∷ []) (Err Answer)
-        not_answered n told = record {
+        pub not_answered : {s t : ℕ} (n : ℕ) → (said last).bytes ≡ (said new).bytes ++ take n one.reply.bytes → ((n : ℕ) → TurnCosts from.session piece n → t ≤ s + n)
+            → Ran moment since leaves said is_at emptied s t old last from (piece ∷ []) (Err Answer)
+        not_answered n told spent = record {
           dones = one ∷ [];
           done = (does, tt);
           moments = both;
@@ -348,13 +462,15 @@ module _ {D : Type 0} (moment : D → ℕ) (since : D → ℕ → Moment PageMap
             left = left;
           };
           at = tt;
+          empties = tt;
+          spent = spent_one from piece (one ∷ []) _ _ spent;
         }
 
   -- nothing was executed, and then pieces
-  pub after_settling : (old mid new : D) (from : State) (pieces : List (List ℕ)) (result : Result Bool Stop) → said mid ≡ said old
-      → Between moment since old mid (OneOf from.session.committed from.session.committed (said old).bytes)
-      → Ran moment since leaves said is_at emptied mid new from pieces result → Ran moment since leaves said is_at emptied old new from pieces result
-  after_settling old mid new from pieces result same time ran =
+  pub after_settling : {s t : ℕ} (old mid new : D) (from : State) (pieces : List (List ℕ)) (result : Result Bool Stop) → said mid ≡ said old
+      → Between moment since old mid (OneOf from.session.committed from.session.committed (said old).bytes) → (emptied old → emptied mid)
+      → Ran moment since leaves said is_at emptied s t mid new from pieces result → Ran moment since leaves said is_at emptied s t old new from pieces result
+  after_settling old mid new from pieces result same time kept ran =
       let bytes = ap (λ (s : Said). s.bytes) same in
       let ends : List ℕ → Type 0 = λ before. EndsSo StandsFor (leaves new) from (length pieces) ran.dones before (said new).bytes result in
       record {
@@ -367,18 +483,18 @@ module _ {D : Type 0} (moment : D → ℕ) (since : D → ℕ → Moment PageMap
             time ran.moments;
         ends = subst ends bytes ran.ends;
         at = ran.at;
+        empties = empties_after ran.dones (emptied old) (emptied mid) (emptied new) result kept ran.empties;
+        spent = ran.spent;
       }
 
   -- no memory, before a piece
-  pub wants_memory : (old : D) (from : State) (pieces : List (List ℕ)) → ((map : PageMap) → leaves old map → StandsFor map from.session.committed)
-      → Ran moment since leaves said is_at emptied old old from pieces (Err Memory)
+  pub wants_memory : {s : ℕ} (old : D) (from : State) (pieces : List (List ℕ)) → ((map : PageMap) → leaves old map → StandsFor map from.session.committed)
+      → Ran moment since leaves said is_at emptied s s old old from pieces (Err Memory)
   wants_memory old from pieces left =
-      without_memory old old from refl left (record { later = omega arith; nothing_else = λ t m le s. inl s; keeps = λ t m le s. s }) pieces
+      without_memory old old from refl left (record { later = omega arith; nothing_else = λ t m le s. inl s; keeps = λ t m le s. s }) pieces (λ n c. omega arith)
 
   -- nothing was fed
-  pub ran_empty : (old : D) (from : State) (fed : List ℕ) → fed ≡ [] → ((map : PageMap) → leaves old map → StandsFor map from.session.committed) → is_at old from
-      → Ran moment since leaves said is_at emptied old old from (cut fed).pieces (Ok false)
-  unfolding cut_from
-  ran_empty old from fed e left at =
-      let P : List ℕ → Type 0 = λ f. RanOk moment since leaves said is_at emptied old old from (cut f).pieces false in
-      subst P (sym e) (ran_none old from left at)
+  pub ran_empty : {s : ℕ} (old : D) (from : State) → ((map : PageMap) → leaves old map → StandsFor map from.session.committed) → is_at old from
+      → Ran moment since leaves said is_at emptied s s old old from (cut []).pieces (Ok false)
+  unfolding cut_in
+  ran_empty old from left at = ran_none old from left at

@@ -1,11 +1,13 @@
 -- What calls leave of a desk.
-use Rattle.std.specs.Prelude.{◌≡◌, ◌⊎◌, ◌||◌, ℕ, ◌+◌, ◌≤◌, Bool, List, [], ◌∷◌, ◌++◌, length, take, Result, Ok, Err, IfOk}
+use Rattle.std.specs.Prelude.{◌≡◌, ◌⊎◌, ℕ, ◌+◌, ◌≤◌, Bool, List, ◌++◌, length, take, Result, Ok, Err, IfOk}
 use Rattle.gx_words.specs.Causes.{Said}
 use Rattle.gx_words.specs.Moments.{Moment}
 use Rattle.gx_engine.specs.Times.{Between}
 use Rattle.gx_words.specs.PageMap.{PageMap}
-use Rattle.gx_engine.specs.Model.{Database, StandsFor}
-use Rattle.gx_engine.specs.Runs.{State, Done, Does, AreDone, after, committed_after, any_refused, cost_of, cost_begun, last_reply}
+use Rattle.gx_engine.specs.Database.{Database}
+use Rattle.gx_engine.specs.Holding.{StandsFor}
+use Rattle.gx_engine.specs.Runs.{State, Done, AreDone, after, any_refused, CostsOfRun}
+use Rattle.gx_run_file.specs.Replied.{last_reply}
 use Rattle.gx_engine.specs.Engines.{checkpoint_reply}
 use Rattle.gx_run_file.specs.Headline.{AnyMoment, EndsSo}
 use Rattle.gx_run_file.specs.declared.stop.Stop.{Stop}
@@ -23,13 +25,13 @@ While db bytes more m = StandsFor m.image db × ((n : ℕ) × (m.bytes ≡ bytes
 abbrev pub Empties : List Done → Type 0 → Type 0 → Type 0
 Empties dones before now = (last : List ℕ) → (last ≡ checkpoint_reply → before) → last_reply last dones ≡ checkpoint_reply → now
 
--- There are no more ticks than the pieces may cost, with the one that stopped the run.
+-- There are no more ticks than the pieces may cost that were done, and the one that stopped the run.
 abbrev pub Spent : State → List (List ℕ) → List Done → ℕ → ℕ → Result Bool Stop → Type 0
-Spent from pieces dones before now (Ok refused) = now ≤ before + cost_of from pieces dones
-Spent from pieces dones before now (Err Answer) = now ≤ before + cost_of from pieces dones
-Spent from pieces dones before now (Err Disk) = now ≤ before + cost_begun from pieces dones
-Spent from pieces dones before now (Err Memory) = now ≤ before + cost_begun from pieces dones
-Spent from pieces dones before now (Err (Broken page expected found)) = now ≤ before + cost_begun from pieces dones
+Spent from pieces dones before now (Ok refused) = (n : ℕ) → CostsOfRun from pieces dones n → now ≤ before + n
+Spent from pieces dones before now (Err Answer) = (n : ℕ) → CostsOfRun from (take (length dones) pieces) dones n → now ≤ before + n
+Spent from pieces dones before now (Err Disk) = (n : ℕ) → CostsOfRun from pieces dones n → now ≤ before + n
+Spent from pieces dones before now (Err Memory) = (n : ℕ) → CostsOfRun from pieces dones n → now ≤ before + n
+Spent from pieces dones before now (Err (Broken page expected found)) = (n : ℕ) → CostsOfRun from pieces dones n → now ≤ before + n
 
 -- The pieces were run, from a state on, until one stopped the run or to their end; so many ticks were counted before and
 -- are counted now.

@@ -1,15 +1,15 @@
 //! A database in a file.
 
-ghost use Rattle.std.specs.Prelude.{◌≡◌, false};
+ghost use Rattle.std.specs.Prelude.{◌≡◌, false, []};
 
 use crate::desk::Desk;
-use crate::engine::Engine;
-use crate::keeper::Keeper;
-use crate::reply::Reply;
 use crate::stop::Stop;
+use gx_engine::{Engine, Reply};
 use gx_io::Failed;
-use gx_pages::PageError;
-use std::alloc::Global;
+use gx_lexer::Piece;
+use gx_pager::Keeper;
+use gx_pages::{PageError, Steps};
+use std::sync::ledger::Ledger;
 
 /// How many pages may wait before a checkpoint is made.
 const WAITING: u64 = 1_024;
@@ -32,12 +32,19 @@ impl<P: Keeper> FileDesk<P> {
 
 impl<P: Keeper> Desk for FileDesk<P> {
     ghost use Rattle.gx_engine.specs.Engines.{IsIn, HasAtMost};
+    ghost use Rattle.gx_engine.specs.declared.engine.Kind.TheVariants.{Idle};
 
     ghost tells = { P.tells };
 
     ghost is_at = { λ d s. IsIn P.Pages d.engine.store d.engine.kind s.session × HasAtMost P.Pages d.engine.store s.pages };
 
     ghost ready = { λ d. (d.engine.ended ≡ false) × (P.spoiled d.engine.store ≡ false) };
+
+    ghost idle = { λ d. d.engine.kind ≡ Idle };
+
+    ghost emptied = { λ d. P.counted_records d.engine.store [] };
+
+    ghost on_disk = { Unit {0} };
 
     ghost said = { λ d. P.said d.engine.store };
 
@@ -57,8 +64,8 @@ impl<P: Keeper> Desk for FileDesk<P> {
 
     ghost left = { λ tells d s at. at.0.left };
 
-    fn execute(&mut self, alloc: Global, piece: &[u8]) -> Result<Reply, Stop> {
-        match self.engine.execute(alloc, piece) {
+    fn execute<L: Ledger>(&mut self, piece: &Piece, steps: &mut Steps<L>) -> Result<Reply, Stop> {
+        match self.engine.execute(piece, steps) {
             Ok(reply) => Ok(reply),
             Err(PageError::DiskFault) => Err(Stop::Disk),
             Err(PageError::Memory) => Err(Stop::Memory),
@@ -82,12 +89,12 @@ impl<P: Keeper> Desk for FileDesk<P> {
         store.answer(bytes)
     }
 
-    fn settle(&mut self) -> Result<(), Failed> {
+    fn settle(&mut self, due: bool) -> Result<(), Failed> {
         if self.engine.in_block() {
             return Ok(());
         }
         let store = self.engine.store_mut();
-        if store.waiting() <= WAITING {
+        if !due && store.waiting() <= WAITING {
             return Ok(());
         }
         store.checkpoint()

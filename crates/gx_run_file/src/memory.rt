@@ -3,13 +3,13 @@
 ghost use Rattle.std.specs.Prelude.{◌≡◌, ℕ, ◌↔◌, false};
 
 use crate::desk::Desk;
-use crate::engine::Engine;
-use crate::reply::Reply;
 use crate::stop::Stop;
 use gx_disk::Host;
+use gx_engine::{Engine, Reply};
 use gx_io::Failed;
-use gx_pages::{MemoryPages, PageError, Pages};
-use std::alloc::Global;
+use gx_lexer::Piece;
+use gx_pages::{MemoryPages, PageError, Pages, Steps};
+use std::sync::ledger::Ledger;
 
 /// An engine over a store in memory, and a host who is answered. The host's disk isn't called.
 #[derive(Drop)]
@@ -22,12 +22,19 @@ impl<'h, H: Host> Desk for MemoryDesk<'h, H> {
     ghost use Rattle.std.proofs.Common.{refl, ◌∙◌};
     ghost use Rattle.gx_words.specs.Image.{Image};
     ghost use Rattle.gx_engine.specs.Engines.{IsIn, HasAtMost};
+    ghost use Rattle.gx_engine.specs.declared.engine.Kind.TheVariants.{Idle};
 
     ghost tells = { H.tells };
 
     ghost is_at = { λ d s. IsIn ⟦<MemoryPages as Pages>⟧ d.engine.store d.engine.kind s.session × HasAtMost ⟦<MemoryPages as Pages>⟧ d.engine.store s.pages };
 
     ghost ready = { λ d. d.engine.ended ≡ false };
+
+    ghost idle = { λ d. d.engine.kind ≡ Idle };
+
+    ghost emptied = { λ d. Unit {0} };
+
+    ghost on_disk = { ⊥ };
 
     ghost said = { λ d. H.said d.host.now };
 
@@ -49,8 +56,8 @@ impl<'h, H: Host> Desk for MemoryDesk<'h, H> {
 
     ghost left = { λ tells d s at map l. absurd l };
 
-    fn execute(&mut self, alloc: Global, piece: &[u8]) -> Result<Reply, Stop> {
-        match self.engine.execute(alloc, piece) {
+    fn execute<L: Ledger>(&mut self, piece: &Piece, steps: &mut Steps<L>) -> Result<Reply, Stop> {
+        match self.engine.execute(piece, steps) {
             Ok(reply) => Ok(reply),
             Err(PageError::DiskFault) => unreachable!(),
             Err(PageError::Memory) => Err(Stop::Memory),
@@ -73,7 +80,7 @@ impl<'h, H: Host> Desk for MemoryDesk<'h, H> {
         self.host.answer(bytes)
     }
 
-    fn settle(&mut self) -> Result<(), Failed> {
+    fn settle(&mut self, _due: bool) -> Result<(), Failed> {
         Ok(())
     }
 }

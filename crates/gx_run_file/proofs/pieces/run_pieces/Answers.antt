@@ -1,7 +1,9 @@
-use Rattle.std.proofs.Common.{◌≡◌, ℕ, Bool, ◌||◌, List, [], ◌∷◌, ◌++◌, Result, Ok, Err, refl, sym, ◌∙◌, ap, subst, append_assoc, arith}
+use Rattle.std.proofs.Common.{◌≡◌, ℕ, Bool, false, ◌||◌, List, [], ◌∷◌, ◌++◌, Result, Ok, Err, refl, sym, ◌∙◌, ap, subst, append_assoc, arith}
 use Rattle.std.proofs.lemmas.Result.{err_from_is_err_and}
+use Rattle.gx_lexer.specs.declared.piece.Piece.{Piece}
 use Rattle.gx_run_file.specs.declared.stop.Stop.{Stop}
 use Rattle.gx_run_file.proofs.RunFacts as facts
+use Rattle.gx_run_file.proofs.TextFacts as texts
 use Rattle.gx_run_file.proofs.pieces.run_pieces.Goals as goal
 
 pub loop-piece-init : goal.loop-piece-init
@@ -11,9 +13,11 @@ loop-piece-init g c = record {
   ran = (
     [],
     refl,
-    λ tells from at.
+    λ tells from all at are.
         let d = g.D.Desk in
-        facts.ran_none d.moment d.may_have_left_since d.may_leave d.said d.is_at d.emptied c.args.desk.now from (λ map l. g.met.D.Desk.left tells c.args.desk.now from at map l) at,
+        let P : List (List ℕ) → Type 0 = λ ps. facts.RanOk d.moment d.may_have_left_since d.may_leave d.said d.is_at d.emptied c.args.steps.now c.args.steps.now c.args.desk.now c.args.desk.now from ps false in
+        subst P (sym (texts.no_text all are))
+        (facts.ran_none d.moment d.may_have_left_since d.may_leave d.said d.is_at d.emptied c.args.desk.now from (λ map l. g.met.D.Desk.left tells c.args.desk.now from at map l) at),
   );
   disk = omega arith;
   answers = omega arith;
@@ -30,39 +34,42 @@ loop-piece-preserved g c =
       follows = g.met.D.Desk.goes_on c.args.desk.now c.loop-piece.desk c.run_piece.new.desk c.loop-piece.invariant.follows c.run_piece.ensures.follows;
       ran = (
         i.0 ++ piece ∷ [],
-        i.1 ∙ ap (λ (ps : List (List ℕ)). i.0 ++ ps) rest ∙ sym (append_assoc i.0 (piece ∷ []) more),
-        λ tells from at.
+        i.1 ∙ ap (λ (ps : List Piece). i.0 ++ ps) rest ∙ sym (append_assoc i.0 (piece ∷ []) more),
+        λ tells from all at are.
             let d = g.D.Desk in
-            let first = i.2 tells from at in
-            let second = c.in_ok-one.ensures.headline tells (facts.behind d.moment d.may_have_left_since d.may_leave d.said d.is_at d.emptied c.args.desk.now c.loop-piece.desk from i.0 c.loop-piece.refused first) first.at.1 in
-            let P : List ℕ → Type 0 = λ p. facts.RanOk d.moment d.may_have_left_since d.may_leave d.said d.is_at d.emptied c.loop-piece.desk c.run_piece.new.desk
-            (facts.behind d.moment d.may_have_left_since d.may_leave d.said d.is_at d.emptied c.args.desk.now c.loop-piece.desk from i.0 c.loop-piece.refused first) (p ∷ []) c.in_ok-one.one in
-            let Q : Bool → Type 0 = λ b. facts.RanOk d.moment d.may_have_left_since d.may_leave d.said d.is_at d.emptied c.args.desk.now c.run_piece.new.desk from (i.0 ++ piece ∷ []) b in
+            let p = texts.parted all i.0 (piece ∷ []) are in
+            let one = texts.one_text p.behind piece p.behind_of in
+            let first = i.2 tells from p.front at p.front_of in
+            let second = c.in_ok-one.ensures.headline tells (facts.behind d.moment d.may_have_left_since d.may_leave d.said d.is_at d.emptied c.args.desk.now c.loop-piece.desk from p.front c.loop-piece.refused first) one.text first.at.1 one.of in
+            let Q : Bool → Type 0 = λ b. facts.RanOk d.moment d.may_have_left_since d.may_leave d.said d.is_at d.emptied c.args.steps.now c.run_piece.new.steps c.args.desk.now c.run_piece.new.desk from all b in
+            let R : List (List ℕ) → Type 0 = λ ps. facts.RanOk d.moment d.may_have_left_since d.may_leave d.said d.is_at d.emptied c.args.steps.now c.run_piece.new.steps c.args.desk.now c.run_piece.new.desk from ps (c.loop-piece.refused || c.in_ok-one.one) in
             subst Q (sym c.either-refused.ensures)
-            (facts.ran_then d.moment d.may_have_left_since d.may_leave d.said d.is_at d.emptied c.args.desk.now c.loop-piece.desk c.run_piece.new.desk from i.0 (piece ∷ []) c.loop-piece.refused (Ok c.in_ok-one.one) first
-            (subst P c.as_slice.ensures second)),
+            (subst R (sym (p.whole ∙ ap (λ (ps : List (List ℕ)). p.front ++ ps) one.are))
+            (facts.ran_then d.moment d.may_have_left_since d.may_leave d.said d.is_at d.emptied c.args.desk.now c.loop-piece.desk c.run_piece.new.desk from p.front (one.text ∷ []) c.loop-piece.refused (Ok c.in_ok-one.one) first second)),
       );
       disk = let h = c.run_piece.ensures.counted in let k = c.loop-piece.invariant.disk in omega (arith, h.0, k);
       answers = let h = c.run_piece.ensures.counted in let k = c.loop-piece.invariant.answers in omega (arith, h.1, k);
     }
 
 pub returns-in_err-one-clause-headline : goal.returns-in_err-one-clause-headline
-returns-in_err-one-clause-headline g c = λ tells from at.
+returns-in_err-one-clause-headline g c = λ tells from all at are.
     let d = g.D.Desk in
-    let p = err_from_is_err_and c.from_residual.result c.from_residual.ensures.1 in
+    let e = err_from_is_err_and c.from_residual.result c.from_residual.ensures.1 in
     let i = c.loop-piece.invariant.ran in
     let piece = c.in-Some.piece.now in
     let more = c.in-Some.after.now in
     let rest : c.loop-piece.rest.now ≡ piece ∷ more = c.in-Some.ensures.cases.0 in
-    let first = i.2 tells from at in
-    let mid = facts.behind d.moment d.may_have_left_since d.may_leave d.said d.is_at d.emptied c.args.desk.now c.loop-piece.desk from i.0 c.loop-piece.refused first in
-    let second = c.in_err-one.ensures.headline tells mid first.at.1 in
+    let p = texts.parted all i.0 (piece ∷ more) (are ∙ i.1 ∙ ap (λ (ps : List Piece). i.0 ++ ps) rest) in
+    let q = texts.parted p.behind (piece ∷ []) more p.behind_of in
+    let one = texts.one_text q.front piece q.front_of in
+    let first = i.2 tells from p.front at p.front_of in
+    let mid = facts.behind d.moment d.may_have_left_since d.may_leave d.said d.is_at d.emptied c.args.desk.now c.loop-piece.desk from p.front c.loop-piece.refused first in
     let stop : Stop = c.in_err-one.field-0.0 in
-    let P : List ℕ → Type 0 = λ p. facts.RanErr d.moment d.may_have_left_since d.may_leave d.said d.is_at d.emptied c.loop-piece.desk c.run_piece.new.desk mid (p ∷ []) stop in
-    let all = facts.ran_then d.moment d.may_have_left_since d.may_leave d.said d.is_at d.emptied c.args.desk.now c.loop-piece.desk c.run_piece.new.desk from i.0 (piece ∷ []) c.loop-piece.refused (Err stop) first
-    (subst P c.as_slice.ensures second) in
-    let pieces : i.0 ++ piece ∷ [] ++ more ≡ c.args.pieces.now = append_assoc i.0 (piece ∷ []) more ∙ ap (λ (ps : List (List ℕ)). i.0 ++ ps) (sym rest) ∙ sym i.1 in
-    let Q : List (List ℕ) → Type 0 = λ ps. facts.RanErr d.moment d.may_have_left_since d.may_leave d.said d.is_at d.emptied c.args.desk.now c.run_piece.new.desk from ps stop in
-    let R : Result Bool Stop → Type 0 = λ r. facts.RanAs d.moment d.may_have_left_since d.may_leave d.said d.is_at d.emptied c.args.desk.now c.run_piece.new.desk from c.args.pieces.now r in
-    let same : Err stop ≡ c.from_residual.result = sym (p.1 ∙ ap (λ (s : Stop). Err s) p.2) in
-    subst R same (subst Q pieces (facts.ran_more d.moment d.may_have_left_since d.may_leave d.said d.is_at d.emptied c.args.desk.now c.run_piece.new.desk from (i.0 ++ piece ∷ []) more stop all))
+    let second = c.in_err-one.ensures.headline tells mid one.text first.at.1 one.of in
+    let both = facts.ran_then d.moment d.may_have_left_since d.may_leave d.said d.is_at d.emptied c.args.desk.now c.loop-piece.desk c.run_piece.new.desk from p.front (one.text ∷ []) c.loop-piece.refused (Err stop) first second in
+    let pieces : (p.front ++ one.text ∷ []) ++ q.behind ≡ all =
+    append_assoc p.front (one.text ∷ []) q.behind ∙ sym (p.whole ∙ ap (λ (ps : List (List ℕ)). p.front ++ ps) (q.whole ∙ ap (λ (ps : List (List ℕ)). ps ++ q.behind) one.are)) in
+    let Q : List (List ℕ) → Type 0 = λ ps. facts.RanErr d.moment d.may_have_left_since d.may_leave d.said d.is_at d.emptied c.args.steps.now c.run_piece.new.steps c.args.desk.now c.run_piece.new.desk from ps stop in
+    let R : Result Bool Stop → Type 0 = λ r. facts.RanAs d.moment d.may_have_left_since d.may_leave d.said d.is_at d.emptied c.args.steps.now c.run_piece.new.steps c.args.desk.now c.run_piece.new.desk from all r in
+    let same : Err stop ≡ c.from_residual.result = sym (e.1 ∙ ap (λ (s : Stop). Err s) e.2) in
+    subst R same (subst Q pieces (facts.ran_more d.moment d.may_have_left_since d.may_leave d.said d.is_at d.emptied c.args.desk.now c.run_piece.new.desk from (p.front ++ one.text ∷ []) q.behind stop both))

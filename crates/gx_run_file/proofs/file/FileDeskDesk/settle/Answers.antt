@@ -1,0 +1,14 @@
+use Rattle.std.proofs.Common.{sym, subst}
+use Rattle.gx_engine.specs.Engines.{IsIn, HasAtMost}
+use Rattle.gx_run_file.proofs.DeskFacts as facts
+use Rattle.gx_run_file.proofs.OpenFacts.{no_gap}
+use Rattle.gx_run_file.proofs.file.FileDeskDesk.settle.Goals as goal
+
+pub returns-clause-at : goal.returns-clause-at
+returns-clause-at g c = facts.on_ok c.checkpoint.result _ (λ tells from at.
+    let store = c.store_mut-store.result.now in
+    let At : g.row.P.Denot → Type 0 = λ s. IsIn g.P.Pages s c.args.self.now.engine.kind from.session × HasAtMost g.P.Pages s from.pages in
+    let here : At store = subst At (sym c.store_mut-store.ensures.value) at in
+    let k = c.checkpoint.ensures in
+    let gap = no_gap (g.P.Pages.committed store) from.session.committed here.0.committed in
+    facts.stays_in g.P.Pages store c.checkpoint.new.self c.args.self.now.engine.kind from here (k.map tells gap) k.count (k.committed.0 (tells, gap)) k.committed.1 (k.images gap))
