@@ -1,18 +1,18 @@
 -- An item is added on a new page.
-use Rattle.std.proofs.Common.{◌≡◌, ◌≢◌, inr, ℕ, ◌+◌, ◌-◌, ◌^◌, ◌<◌, ◌≤◌, min, List, [], ◌∷◌, ◌++◌, length, Option, Some, refl, sym, ◌∙◌, ap, subst, append_assoc, append-nil, length-append, arith}
+use Rattle.std.proofs.Common.{◌≡◌, ◌≢◌, inr, ℕ, ◌+◌, ◌-◌, ◌^◌, ◌<◌, ◌≤◌, min, List, [], ◌∷◌, ◌++◌, length, Option, Some, refl, sym, ◌∙◌, ap, subst, append_assoc, length-append, arith}
 use Rattle.std.specs.List.{AllByRecursion}
 use Rattle.std.proofs.lemmas.List.{length-map}
 use Rattle.gx_words.specs.PageMap.{PageMap, with_page}
 use Rattle.gx_pages.specs.declared.store.Pages.{Ghosts}
 use Rattle.gx_pages.specs.Frees.{IsApart, IsFreeList, KeepsHeader, Taken}
-use Rattle.gx_pages.specs.Footprints.{IsOutside, ChangesOnly, KeepsPages, grown}
+use Rattle.gx_pages.specs.Footprints.{IsOutside, ChangesOnly, grown}
 use Rattle.gx_pages.proofs.Footprints as feet
 use Rattle.gx_slot.specs.Slots.{Slots, Fits, spelling, taken}
 use Rattle.gx_chain.specs.declared.chain.Chain.{Chain}
 use Rattle.gx_chain.specs.Chains.{Link, IsLink, AreLinked, Holds, HoldsBeside, HasRoom, entries_of, first_of, pages_of, slots}
 use Rattle.gx_chain.proofs.AddHere.{Added}
 use Rattle.gx_chain.proofs.Entries.{entries_append}
-use Rattle.gx_chain.proofs.Links.{Ends, ends_of, pages_end, first_same, last_mid, linked_last, linked_some, linked_same, each_left}
+use Rattle.gx_chain.proofs.Links.{ends_of, pages_end, first_same, last_mid, linked_last, linked_some, linked_same, each_left}
 
 module _ {P : Type 0} (g : Ghosts P) (old new : P) (kind : ℕ) (chain : Chain) (pages : ℕ) (item : List ℕ) (page slot : ℕ) (found : Slots) (middle : PageMap) (fresh end : List ℕ)
     (one : (s : Slots) → g.map old chain.last ≡ Some (spelling s) → Fits s → found ≡ s) (page_fits : page < 2 ^ 64)

@@ -1,13 +1,12 @@
 -- An item is added on the last page.
-use Rattle.std.proofs.Common.{◌≡◌, inl, ℕ, ◌+◌, List, [], ◌∷◌, ◌++◌, length, Option, Some, refl, sym, ◌∙◌, ap, subst, length-append, arith}
+use Rattle.std.proofs.Common.{◌≡◌, inl, ℕ, List, [], ◌∷◌, ◌++◌, length, Option, Some, refl, sym, ◌∙◌, ap, subst, length-append, arith}
 use Rattle.gx_pages.specs.declared.store.Pages.{Ghosts}
 use Rattle.gx_pages.specs.Footprints.{KeepsPages}
 use Rattle.gx_slot.specs.Slots.{Slots, Fits, spelling, with_item}
 use Rattle.gx_chain.specs.declared.chain.Chain.{Chain}
-use Rattle.gx_chain.specs.declared.entry.Entry.{Entry}
-use Rattle.gx_chain.specs.Chains.{Link, IsLink, Holds, HoldsBeside, HasRoom, Adds, entries_of, first_of, pages_of, slots}
+use Rattle.gx_chain.specs.Chains.{Link, IsLink, HoldsBeside, HasRoom, Adds, entries_of, first_of, pages_of, slots}
 use Rattle.gx_chain.proofs.Entries.{entries_here}
-use Rattle.gx_chain.proofs.Links.{Ends, ends_of, linked_last, same_slots, taken_push}
+use Rattle.gx_chain.proofs.Links.{ends_of, linked_last, same_slots, taken_push}
 
 -- what an added item makes of a chain
 abbrev pub Added : {P : Type 0} → Ghosts P → P → P → ℕ → Chain → Chain → ℕ → ℕ → List ℕ → List Link → List ℕ → Type 0

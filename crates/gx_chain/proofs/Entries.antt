@@ -1,9 +1,9 @@
 -- The items of a chain in order, where pages are cut.
-use Rattle.std.proofs.Common.{◌≡◌, ℕ, ◌+◌, ◌<◌, zero, suc, List, [], ◌∷◌, ◌++◌, length, take, Option, Some, None, refl, sym, ◌∙◌, ap, subst, append_assoc, append-nil, add-one, add_assoc, arith}
+use Rattle.std.proofs.Common.{◌≡◌, ℕ, ◌+◌, ◌<◌, zero, suc, List, [], ◌∷◌, ◌++◌, length, take, Option, Some, None, refl, sym, ◌∙◌, ap, subst, append_assoc, append-nil, add-one, arith}
 use Rattle.std.proofs.lemmas.Grind.{flat_map-append}
 use Rattle.gx_slot.specs.Slots.{item_at}
 use Rattle.gx_chain.specs.declared.entry.Entry.{Entry}
-use Rattle.gx_chain.specs.Chains.{Link, Adds, entries_at, entries_of}
+use Rattle.gx_chain.specs.Chains.{Link, entries_at, entries_of}
 
 pub take_item : (items : List (Option (List ℕ))) (k : ℕ) → k < length items → take (k + 1) items ≡ take k items ++ item_at items k ∷ []
 take_item [] k below = absurd (omega arith)

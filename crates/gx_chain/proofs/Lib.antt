@@ -7,3 +7,6 @@ pub mod Made
 pub mod Putting
 pub mod Unlinks
 pub mod Walks
+pub mod Slotted
+pub mod Spots
+pub mod Stays

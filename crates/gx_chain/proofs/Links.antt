@@ -1,5 +1,5 @@
 -- The pages of a chain: each alone, and what a map says of them.
-use Rattle.std.proofs.Common.{◌≡◌, ◌≢◌, ⊎_elim, ℕ, ◌+◌, ◌<◌, ◌≤◌, zero, suc, List, [], ◌∷◌, ◌++◌, length, map, Option, Some, None, refl, sym, ◌∙◌, ap, subst, append_assoc, append-nil, length-append, arith}
+use Rattle.std.proofs.Common.{◌≡◌, ◌≢◌, ⊎_elim, ℕ, ◌+◌, ◌<◌, zero, suc, List, [], ◌∷◌, ◌++◌, length, map, Option, Some, None, refl, sym, ◌∙◌, ap, subst, append-nil, length-append, arith}
 use Rattle.std.specs.List.{AllByRecursion}
 use Rattle.std.proofs.lemmas.Bool.Decides.{eqb_tells}
 use Rattle.std.proofs.lemmas.List.{map-append}
@@ -11,7 +11,7 @@ use Rattle.gx_pages.specs.Frees.{IsApart, IsFreeList}
 use Rattle.gx_pages.specs.Pages.{HasCause}
 use Rattle.gx_pages.specs.Footprints.{IsOutside}
 use Rattle.gx_pages.proofs.Footprints as feet
-use Rattle.gx_slot.specs.Slots.{Slots, Fits, IsBroken, IsSlotPage, read, spelling, packed, taken, with_item}
+use Rattle.gx_slot.specs.Slots.{Slots, Fits, IsBroken, IsSlotPage, spelling, packed, taken, with_item}
 use Rattle.gx_slot.proofs.SlotFacts.{is_read}
 use Rattle.gx_chain.specs.declared.chain.Chain.{Chain}
 use Rattle.gx_chain.specs.Chains.{Link, IsLink, AreLinked, AreLinkedTo, Holds, HoldsBeside, first_of, first_to, last_to, pages_of, slots}

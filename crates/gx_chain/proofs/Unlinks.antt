@@ -1,16 +1,16 @@
 -- A page is taken out of a chain and given back.
-use Rattle.std.proofs.Common.{◌≡◌, ◌≢◌, ℕ, ◌+◌, ◌<◌, List, [], ◌∷◌, ◌++◌, length, Option, Some, refl, sym, ◌∙◌, ap, subst, append_assoc, append-nil, length-append, arith}
+use Rattle.std.proofs.Common.{◌≡◌, ◌≢◌, ℕ, ◌<◌, ◌≤◌, List, [], ◌∷◌, ◌++◌, length, Option, Some, refl, sym, ◌∙◌, ap, subst, append_assoc, append-nil, length-append, arith}
 use Rattle.std.specs.List.{AllByRecursion}
 use Rattle.std.specs.List.Sorted.{IsPermutation}
-use Rattle.std.proofs.lemmas.List.Sorted.{IsPermutation-refl, IsPermutation-trans, IsPermutation-sym, IsPermutation-middle}
+use Rattle.std.proofs.lemmas.List.Sorted.{IsPermutation-trans, IsPermutation-sym, IsPermutation-middle}
 use Rattle.gx_words.specs.PageMap.{PageMap, with_page}
 use Rattle.gx_pages.specs.declared.store.Pages.{Ghosts}
 use Rattle.gx_pages.specs.Frees.{IsApart, IsFreeList, KeepsHeader, Given}
-use Rattle.gx_pages.specs.Footprints.{IsOutside, ChangesOnly, KeepsPages, grown}
+use Rattle.gx_pages.specs.Footprints.{IsOutside, ChangesOnly, KeepsPages}
 use Rattle.gx_pages.proofs.Footprints as feet
 use Rattle.gx_slot.specs.Slots.{Slots, Fits, spelling}
 use Rattle.gx_chain.specs.declared.chain.Chain.{Chain}
-use Rattle.gx_chain.specs.Chains.{Link, IsLink, AreLinked, Holds, HoldsBeside, first_of, last_to, pages_of, slots}
+use Rattle.gx_chain.specs.Chains.{Link, IsLink, AreLinked, HoldsBeside, first_of, last_to, pages_of, slots}
 use Rattle.gx_chain.proofs.Links.{first_same, last_mid, linked_mid, linked_same, linked_some, linked_stays, pages_mid}
 
 -- The lists of pages: one of the middle goes to the free ones.
@@ -186,8 +186,10 @@ module _ {P : Type 0} (g : Ghosts P) (old new : P) (kind : ℕ) (chain : Chain) 
           (feet.all_join (λ (n : ℕ). n < g.count old) head (pages_of back) (feet.all_left (λ (n : ℕ). n < g.count old) head (page ∷ pages_of back) all)
           (feet.all_right (λ (n : ℕ). n < g.count old) head (page ∷ pages_of back) all).1))
 
-      pub unlinked_inner : first_of back ≢ 0 → HoldsBeside g new kind chain is (page ∷ free) × KeepsPages g old new (pages_of was) free (pages_of is) (page ∷ free)
-      unlinked_inner goes = (
+      -- the chain that ends where it has to now
+      pub unlinked_to : (ends : Chain) → ends.first ≡ chain.first → ends.last ≡ last_to before back → length is ≤ ends.pages
+          → HoldsBeside g new kind ends is (page ∷ free) × KeepsPages g old new (pages_of was) free (pages_of is) (page ∷ free)
+      unlinked_to ends at_first at_last at_most = (
         record {
           held = record {
             linked = linked_same (g.map old) (g.map new) kind front (before, others) (before, others) ((page, items) ∷ back) back refl same_front held.held.linked
@@ -195,10 +197,9 @@ module _ {P : Type 0} (g : Ghosts P) (old new : P) (kind : ℕ) (chain : Chain) 
             apart = feet.apart_left (pages_of is) (page ∷ free) (subst (λ (l : List ℕ). IsApart (l ++ page ∷ free)) (sym cut_is) apart_all);
             below = below_is;
             some = omega (arith, length-append front ((before, others) ∷ back));
-            first = held.held.first ∙ first_same front (before, others) (before, others) ((page, items) ∷ back) back refl;
-            last = held.held.last ∙ last_mid 0 front (before, others) ((page, items) ∷ back) ∙ last_goes back goes ∙ sym (last_mid 0 front (before, others) back);
-            bound = (let bound = held.held.bound in
-                omega (arith, bound, length-append front ((before, others) ∷ (page, items) ∷ back), length-append front ((before, others) ∷ back)));
+            first = at_first ∙ held.held.first ∙ first_same front (before, others) (before, others) ((page, items) ∷ back) back refl;
+            last = at_last ∙ sym (last_mid 0 front (before, others) back);
+            bound = at_most;
           };
           frees = frees_two;
           apart = subst (λ (l : List ℕ). IsApart (l ++ page ∷ free)) (sym cut_is) apart_all;
@@ -213,6 +214,11 @@ module _ {P : Type 0} (g : Ghosts P) (old new : P) (kind : ℕ) (chain : Chain) 
             (feet.header_same (g.map old) (g.map old) middle (feet.header_none (g.map old)) (ap (λ (m : PageMap). m 0) put ∙ feet.with_other (g.map old) before bytes 0 (λ same. linked.0.some (sym same)))) header)
             frees_two),
       )
+
+      pub unlinked_inner : first_of back ≢ 0 → HoldsBeside g new kind chain is (page ∷ free) × KeepsPages g old new (pages_of was) free (pages_of is) (page ∷ free)
+      unlinked_inner goes =
+          unlinked_to chain refl (held.held.last ∙ last_mid 0 front (before, others) ((page, items) ∷ back) ∙ last_goes back goes)
+          (let bound = held.held.bound in omega (arith, bound, length-append front ((before, others) ∷ (page, items) ∷ back), length-append front ((before, others) ∷ back)))
         where
           last_goes : (l : List Link) → first_of l ≢ 0 → last_to page l ≡ last_to before l
           last_goes [] goes = absurd (goes refl)

@@ -1,5 +1,5 @@
 -- A walk that reads the items of a chain.
-use Rattle.std.proofs.Common.{◌≡◌, ◌≢◌, ◌⊎◌, inl, inr, ⊎_elim, ℕ, ◌+◌, ◌-◌, ◌^◌, ◌<◌, ◌≤◌, zero, suc, List, [], ◌∷◌, ◌++◌, length, Option, Some, None, refl, sym, ◌∙◌, ap, subst, append-nil, length-append, arith}
+use Rattle.std.proofs.Common.{◌≡◌, ◌≢◌, ◌⊎◌, inl, inr, ⊎_elim, ℕ, ◌+◌, ◌<◌, ◌≤◌, List, [], ◌∷◌, ◌++◌, length, Some, refl, sym, ◌∙◌, ap, subst, append-nil, length-append, arith}
 use Rattle.std.specs.List.{AllByRecursion}
 use Rattle.std.proofs.lemmas.List.{map-append, length-map}
 use Rattle.gx_words.specs.PageMap.{PageMap}
@@ -13,21 +13,22 @@ use Rattle.gx_chain.proofs.Links.{Begins, begins, last_mid, linked_apart, linked
 use Rattle.gx_chain.proofs.Entries.{entries_end}
 
 -- The pages `done` are read, each names the one behind it, the last of them this one; the mark is one of them.
-pub record Walks (map : PageMap) (total kind first page : ℕ) (entries : List Entry) (mark count : ℕ) : Type 0 where
+pub record Walks (map : PageMap) (total kind first page : ℕ) (entries : List Entry) (passed : List ℕ) (mark count : ℕ) : Type 0 where
   pub done : List Link
   pub linked : AreLinkedTo map kind page done
   pub starts : first ≡ first_to page done
   pub below : AllByRecursion (λ n. n < total) (pages_of done)
   pub read : entries ≡ entries_of done
+  pub stand : passed ≡ pages_of done
   pub len : length done ≡ count
   pub some : (count ≡ 0) ⊎ (page ≢ 0)
   pub marked : (mark ≡ 0) ⊎ (0 < feet.times mark (pages_of done))
 
-pub walks_none : (map : PageMap) (total kind first : ℕ) → Walks map total kind first first [] 0 0
+pub walks_none : (map : PageMap) (total kind first : ℕ) → Walks map total kind first first [] [] 0 0
 walks_none map total kind first =
-    record { done = []; linked = tt; starts = refl; below = tt; read = refl; len = refl; some = inl refl; marked = inl refl }
+    record { done = []; linked = tt; starts = refl; below = tt; read = refl; stand = refl; len = refl; some = inl refl; marked = inl refl }
 
-module _ (map : PageMap) (total kind first page : ℕ) (entries : List Entry) (mark count : ℕ) (walks : Walks map total kind first page entries mark count) where
+module _ (map : PageMap) (total kind first page : ℕ) (entries : List Entry) (passed : List ℕ) (mark count : ℕ) (walks : Walks map total kind first page entries passed mark count) where
   -- where a chain begins at the first page, it goes on with this one
   module _ (chain : Chain) (links : List Link) (at_first : chain.first ≡ first) (held : Holds map total kind chain links) where
     goes_on : Begins map kind page walks.done links
@@ -116,7 +117,7 @@ module _ (map : PageMap) (total kind first page : ℕ) (entries : List Entry) (m
 
   -- one more page is read
   module _ (next : ℕ) (found : Slots) (is : map page ≡ Some (spelling found)) (fits : Fits found) (kind_is : found.kind ≡ kind) (level_is : found.level ≡ 0) (next_is : next ≡ found.next)
-      (page_is : page ≢ 0) (below_is : page < total) (more : List Entry) (read : more ≡ entries ++ entries_at page 0 found.items) where
+      (page_is : page ≢ 0) (below_is : page < total) (more : List Entry) (read : more ≡ entries ++ entries_at page 0 found.items) (later : List ℕ) (stand : later ≡ passed ++ page ∷ []) where
     same_found : found ≡ slots kind next found.items
     same_found = λ i. record { kind = kind_is i; level = level_is i; next = sym next_is i; items = found.items }
 
@@ -140,6 +141,9 @@ module _ (map : PageMap) (total kind first page : ℕ) (entries : List Entry) (m
     read_now : more ≡ entries_of now
     read_now = read ∙ ap (λ (l : List Entry). l ++ entries_at page 0 found.items) walks.read ∙ sym (entries_end walks.done page found.items)
 
+    stand_now : later ≡ pages_of now
+    stand_now = stand ∙ ap (λ (l : List ℕ). l ++ page ∷ []) walks.stand ∙ sym (pages_end walks.done (page, found.items))
+
     starts_now : (done : List Link) → first ≡ first_to page done → first ≡ first_to next (done ++ (page, found.items) ∷ [])
     starts_now [] at = at
     starts_now (l ∷ done) at = at
@@ -156,20 +160,21 @@ module _ (map : PageMap) (total kind first page : ℕ) (entries : List Entry) (m
         omega (arith, here, all, same)))
         moves
 
-    pub walks_more : (m : ℕ) → (m ≡ mark) ⊎ (m ≡ page) → next ≢ 0 → Walks map total kind first next more m (count + 1)
+    pub walks_more : (m : ℕ) → (m ≡ mark) ⊎ (m ≡ page) → next ≢ 0 → Walks map total kind first next more later m (count + 1)
     walks_more m moves goes = record {
       done = now;
       linked = linked_now;
       starts = starts_now walks.done walks.starts;
       below = below_now;
       read = read_now;
+      stand = stand_now;
       len = (let len = walks.len in omega (arith, len, length-append walks.done ((page, found.items) ∷ [])));
       some = inr goes;
       marked = marked_now m moves;
     }
 
     -- it is the last one
-    pub walks_end : next ≡ 0 → (links : List Link) × Holds map total kind (record { first = first; last = page; pages = count + 1 }) links × (more ≡ entries_of links) × (count + 1 ≡ length links)
+    pub walks_end : next ≡ 0 → (links : List Link) × Holds map total kind (record { first = first; last = page; pages = count + 1 }) links × (more ≡ entries_of links) × (count + 1 ≡ length links) × (later ≡ pages_of links)
     walks_end ends =
         let linked : AreLinked map kind now = subst (λ (n : ℕ). AreLinkedTo map kind n now) ends linked_now in
         let long = length-append walks.done ((page, found.items) ∷ []) in
@@ -186,4 +191,5 @@ module _ (map : PageMap) (total kind first page : ℕ) (entries : List Entry) (m
           },
           read_now,
           omega (arith, long, len),
+          stand_now,
         )

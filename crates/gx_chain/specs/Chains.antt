@@ -107,3 +107,7 @@ IsSound (Err DiskFault) = Unit {0}
 IsSound (Err (Broken page expected found)) = ⊥
 IsSound (Err (PageSpace pages)) = Unit {0}
 IsSound (Err Memory) = Unit {0}
+
+-- It is the page before this one among pages that follow one another, or 0.
+abbrev pub IsBehind : ℕ → ℕ → List ℕ → Type 0
+IsBehind before page pages = before ≢ 0 → (front : List ℕ) × (back : List ℕ) × (pages ≡ front ++ before ∷ page ∷ back)

@@ -4,13 +4,13 @@ ghost use Rattle.std.specs.Prelude.{◌≡◌, ◌≢◌, ℕ, ◌+◌, ◌<◌,
 ghost use Rattle.gx_pages.specs.Footprints.{KeepsPages, StaysQuiet};
 ghost use Rattle.gx_pages.specs.Frees.{IsFreeList, IsFull};
 ghost use Rattle.gx_pages.specs.Pages.{HasCause};
-ghost use Rattle.gx_chain.specs.Chains.{Link, Holds, HoldsBeside, HoldsNone, BeginsNone, ListsNone, HasRoom, Adds, IsSound, entries_of, first_of, pages_of};
+ghost use Rattle.gx_chain.specs.Chains.{Link, Holds, HoldsBeside, HoldsNone, BeginsNone, ListsNone, HasRoom, Adds, IsBehind, IsSound, entries_of, first_of, last_to, pages_of};
 ghost use Rattle.gx_chain.specs.declared.entry.Entry.{Entry};
 
 use crate::entry::Entry;
 use crate::reading::{fetch_slots, push_entries};
 use crate::trail::Trail;
-use crate::writing::put_slots;
+use crate::writing::{is_empty, put_slots, remove_item};
 use gx_pages::{PageError, Pages, Steps};
 use gx_slot::SlotPage;
 use std::alloc::Global;
@@ -95,16 +95,16 @@ impl Chain {
         Ok((page, slot))
     }
 
-    /// The chain that begins at this page, and its items in order. Broken where no chain of this kind begins there, a circle
+    /// The chain that begins at this page, its pages and its items in order. Broken where no chain of this kind begins there, a circle
     /// too, which is found when it closes.
     pub fn open<P: Pages>(
         alloc: Global,
         pages: &mut P,
         kind: u8,
         first: u64,
-    ) -> Result<(Chain, Vec<Entry>), PageError>
+    ) -> Result<(Chain, Vec<u64>, Vec<Entry>), PageError>
         ensures linked { IfOk result (λ opened. P.tells → (links : List Link) × Holds (P.map pages.old) (P.count pages.old) kind opened.0 links
-            × (opened.1.items ≡ entries_of links) × (opened.0.pages ≡ length links)) }
+            × (opened.2.items ≡ entries_of links) × (opened.0.pages ≡ length links) × (opened.1.items ≡ pages_of links)) }
         ensures first { IfOk result (λ opened. opened.0.first ≡ first) }
         ensures cause { IfErr result (HasCause (P.faults pages.old) (P.faults pages.new)
             (λ at expected found. P.tells → BeginsNone (P.map pages.old) (P.count pages.old) kind first) (λ _. ⊥) (Unit {0})) }
@@ -114,6 +114,7 @@ impl Chain {
         ensures quiet { StaysQuiet P.Pages pages.old pages.new }
     {
         let mut entries = Vec::new(alloc);
+        let mut feet = Vec::new(alloc);
         let mut trail = Trail::new();
         let mut page = first;
         for passed in 0..u64::MAX {
@@ -131,13 +132,16 @@ impl Chain {
             }
             let next = slots.next();
             push_entries(alloc, page, &slots, &mut entries)?;
+            let Ok(()) = feet.push(page) else {
+                return Err(PageError::Memory);
+            };
             if next == 0 {
                 let chain = Chain {
                     first,
                     last: page,
                     pages: passed + 1,
                 };
-                return Ok((chain, entries));
+                return Ok((chain, feet, entries));
             }
             page = next;
         }
@@ -184,6 +188,11 @@ impl Chain {
             → HoldsBeside P.Pages pages.old kind self.now (front ++ (before, others) ∷ (page, items) ∷ back) free → next ≡ first_of back
             → HoldsBeside P.Pages pages.new kind self.now (front ++ (before, others) ∷ back) (page ∷ free)
             × KeepsPages P.Pages pages.old pages.new (pages_of (front ++ (before, others) ∷ (page, items) ∷ back)) free (pages_of (front ++ (before, others) ∷ back)) (page ∷ free)) }
+        ensures shorter { OnOk result (P.tells → (ends : Chain) (front back : List Link) (others items : List (Option (List ℕ))) (free : List ℕ)
+            → HoldsBeside P.Pages pages.old kind self.now (front ++ (before, others) ∷ (page, items) ∷ back) free → next ≡ first_of back
+            → ends.first ≡ self.now.first → ends.last ≡ last_to before back → length (front ++ (before, others) ∷ back) ≤ ends.pages
+            → HoldsBeside P.Pages pages.new kind ends (front ++ (before, others) ∷ back) (page ∷ free)
+            × KeepsPages P.Pages pages.old pages.new (pages_of (front ++ (before, others) ∷ (page, items) ∷ back)) free (pages_of (front ++ (before, others) ∷ back)) (page ∷ free)) }
         ensures count { P.count pages.new ≡ P.count pages.old }
         ensures cause { IfErr result (HasCause (P.faults pages.old) (P.faults pages.new)
             (λ at expected found. P.tells → (front back : List Link) (others : List (Option (List ℕ)))
@@ -196,6 +205,47 @@ impl Chain {
         slots.set_next(next);
         pages.put(before, slots.page())?;
         pages.give(page)?;
+        Ok(())
+    }
+
+    /// Empties a slot. A page that has no item then is given back, but the first one. `before` is the page before it, or 0.
+    pub fn remove<P: Pages>(
+        &mut self,
+        pages: &mut P,
+        kind: u8,
+        before: u64,
+        page: u64,
+        slot: u16,
+    ) -> Result<(), PageError>
+        ensures removed { OnOk result (P.tells → (links : List Link) (free : List ℕ) (front back : List Entry) (item : List ℕ)
+            → HoldsBeside P.Pages pages.old kind self.old links free → entries_of links ≡ front ++ record { page = page; slot = slot; item = item } ∷ back
+            → IsBehind before page (pages_of links)
+            → (later : List Link) × (rest : List ℕ) × HoldsBeside P.Pages pages.new kind self.new later rest × (entries_of later ≡ front ++ back)
+            × KeepsPages P.Pages pages.old pages.new (pages_of links) free (pages_of later) rest
+            × (self.old.pages ≡ length links → self.new.pages ≡ length later)) }
+        ensures first { self.new.first ≡ self.old.first }
+        ensures same { OnErr result (self.new ≡ self.old) }
+        ensures count { P.count pages.new ≡ P.count pages.old }
+        ensures cause { IfErr result (HasCause (P.faults pages.old) (P.faults pages.new)
+            (λ at expected found. P.tells → (links : List Link) (free : List ℕ) (front back : List Entry) (item : List ℕ)
+            → HoldsBeside P.Pages pages.old kind self.old links free → entries_of links ≡ front ++ record { page = page; slot = slot; item = item } ∷ back
+            → ¬ IsBehind before page (pages_of links)) (λ _. ⊥) (Unit {0})) }
+        ensures other { kind ≢ 2 → IsSound result → P.heap_fetches pages.new ≡ P.heap_fetches pages.old }
+        ensures quiet { StaysQuiet P.Pages pages.old pages.new }
+    {
+        let slots = remove_item(pages, kind, page, slot)?;
+        if before == 0 {
+            return Ok(());
+        }
+        if !is_empty(&slots) {
+            return Ok(());
+        }
+        let next = slots.next();
+        self.unlink_behind(pages, kind, before, page, next)?;
+        if next == 0 {
+            self.last = before;
+        }
+        self.pages = self.pages.saturating_sub(1);
         Ok(())
     }
 

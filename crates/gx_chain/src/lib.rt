@@ -10,7 +10,7 @@ mod writing;
 
 pub use chain::Chain;
 pub use entry::Entry;
-pub use laws::one_chain;
+pub use laws::{chain_stays, empty_chain, one_chain, same_chain};
 pub use reading::fetch_slots;
 pub use trail::Trail;
-pub use writing::put_slots;
+pub use writing::{is_empty, put_slots, remove_item, replace_item};

@@ -40,7 +40,7 @@ pub fn fetch_slots<P: Pages>(pages: &mut P, page: u64, kind: u8) -> Result<SlotP
     }
     let mut bytes = Page::zero();
     pages.fetch(page, &mut bytes)?;
-    let slots = SlotPage::read(&bytes, page, kind)?;
+    let slots = SlotPage::of(bytes, page, kind)?;
     let _page = slots.page();
     one_page();
     Ok(slots)

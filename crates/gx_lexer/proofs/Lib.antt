@@ -4,3 +4,5 @@ mod FeedFacts
 mod LexemeFacts
 mod OperatorFacts
 mod QuoteFacts
+mod ScanFacts
+mod WordFacts

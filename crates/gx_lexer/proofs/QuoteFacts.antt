@@ -1,9 +1,11 @@
 -- A text, from a place on.
-use Rattle.std.proofs.Common.{◌≡◌, ℕ, ◌+◌, ◌<◌, suc, Bool, true, false, not, ◌&&◌, cond, List, [], ◌∷◌, ◌++◌, length, drop, get_or, ◌==◌, Option, Some, None, refl, sym, ◌∙◌, ap, append_assoc, arith}
+use Rattle.std.proofs.Common.{◌≡◌, ℕ, ◌+◌, ◌<◌, suc, Bool, true, false, not, ◌&&◌, cond, List, [], ◌∷◌, ◌++◌, length, take, drop, get_or, ◌==◌, Option, Some, None, refl, sym, ◌∙◌, ap, subst, append_assoc, arith}
+use Rattle.std.specs.List.{prefix_len}
+use Rattle.gx_lexer.specs.declared.token.Token.TheVariants.{Text}
 use Rattle.std.specs.Option.{option_map}
 use Rattle.std.proofs.Math.Seq.{drop-cons}
 use Rattle.std.proofs.lemmas.Bool.Decides.{nat_tests}
-use Rattle.gx_lexer.specs.Tokens.{text_from, and_byte, and_quote}
+use Rattle.gx_lexer.specs.Tokens.{text_from, text_found, text_of, and_byte, and_quote}
 
 -- what is found behind a place, with the text and the bytes before it
 abbrev pub with_front : List ℕ → ℕ → Option (List ℕ × ℕ) → Option (List ℕ × ℕ)
@@ -44,3 +46,34 @@ pub goes_on : (after front longer : List ℕ) (closing next : Bool) (n b : ℕ) 
     → with_front front n (text_from closing (drop n after)) ≡ all → with_front longer (n + 1) (text_from next (drop (n + 1) after)) ≡ all
 goes_on after front longer closing next n b all l e f o t h =
     rw (o, t) (sym (step closing (b == 39) front n b (drop (n + 1) after) refl f) ∙ ap (λ (bs : List ℕ). with_front front n (text_from closing bs)) (sym (at_place after n b l e)) ∙ h)
+
+-- A text without two quotes.
+
+other_first : (bs : List ℕ) → (get_or bs 0 0 == 39) ≡ false → text_from true bs ≡ Some ([], 0)
+other_first [] e = refl
+other_first (b ∷ bs) e = ap (λ (t : Bool). cond t (and_byte 39 (text_from false bs)) (Some ([], 0))) e
+
+plain_if : (b : ℕ) (bs : List ℕ) (t : Bool) → (b == 39) ≡ t
+    → (prefix_len (λ x. not (x == 39)) bs < length bs → (get_or (drop (prefix_len (λ x. not (x == 39)) bs + 1) bs) 0 0 == 39) ≡ false
+    → text_from false bs ≡ Some (take (prefix_len (λ x. not (x == 39)) bs) bs, prefix_len (λ x. not (x == 39)) bs + 1))
+    → cond (not t) (1 + prefix_len (λ x. not (x == 39)) bs) 0 < suc (length bs)
+    → (get_or (drop (cond (not t) (1 + prefix_len (λ x. not (x == 39)) bs) 0 + 1) (b ∷ bs)) 0 0 == 39) ≡ false
+    → cond t (and_quote (text_from true bs)) (and_byte b (text_from false bs)) ≡ Some (take (cond (not t) (1 + prefix_len (λ x. not (x == 39)) bs) 0) (b ∷ bs), cond (not t) (1 + prefix_len (λ x. not (x == 39)) bs) 0 + 1)
+plain_if b bs true f h l e = ap and_quote (other_first bs e)
+plain_if b bs false f h l e =
+    let n : ℕ = prefix_len (λ x. not (x == 39)) bs in
+    let k : 1 + n ≡ suc n = omega arith in
+    let j : 1 + n + 1 ≡ suc (n + 1) = omega arith in
+    let P : ℕ → Type 0 = λ m. (get_or (drop m (b ∷ bs)) 0 0 == 39) ≡ false in
+    let i : text_from false bs ≡ Some (take n bs, n + 1) = h (omega arith) (subst P j e) in
+    ap (and_byte b) i ∙ (rw (j, k) (let q : n + 1 + 1 ≡ suc (n + 1) = omega arith in rw q refl))
+
+pub plain_text : (bs : List ℕ) → prefix_len (λ x. not (x == 39)) bs < length bs → (get_or (drop (prefix_len (λ x. not (x == 39)) bs + 1) bs) 0 0 == 39) ≡ false
+    → text_from false bs ≡ Some (take (prefix_len (λ x. not (x == 39)) bs) bs, prefix_len (λ x. not (x == 39)) bs + 1)
+plain_text [] l e = absurd (omega arith)
+plain_text (b ∷ bs) l e = plain_if b bs (b == 39) refl (plain_text bs) l e
+
+pub found_plain : (bs : List ℕ) (n : ℕ) → n ≡ prefix_len (λ x. not (x == 39)) bs → n < length bs → (get_or (drop (n + 1) bs) 0 0 == 39) ≡ false → text_of bs ≡ (Some (Text (take n bs)), n + 1)
+found_plain bs n is l e =
+    let P : ℕ → Type 0 = λ m. m < length bs → (get_or (drop (m + 1) bs) 0 0 == 39) ≡ false → text_from false bs ≡ Some (take m bs, m + 1) in
+    ap (text_found bs) (subst P (sym is) (plain_text bs) l e)

@@ -1,5 +1,5 @@
 -- The pieces of a script: it is cut at each `;` that stands in no text and no comment.
-use Rattle.std.specs.Prelude.{ℕ, Bool, false, ◌==◌, if◌then◌else◌, List, [], ◌∷◌, ◌++◌}
+use Rattle.std.specs.Prelude.{ℕ, suc, Bool, false, ◌==◌, if◌then◌else◌, List, [], ◌∷◌, ◌++◌}
 use Rattle.gx_lexer.specs.declared.cutter.Mode.{Mode}
 use Rattle.gx_lexer.specs.declared.cutter.Mode.TheVariants.{Plain, Dash, Text, Comment}
 
@@ -25,6 +25,11 @@ ends Plain b = b == 59
 ends Dash b = b == 59
 ends Text b = false
 ends Comment b = false
+
+-- how many bytes stand before the first that ends a piece
+abbrev pub front_len : Mode → List ℕ → ℕ
+front_len mode [] = 0
+front_len mode (b ∷ bs) = if ends mode b then 0 else suc (front_len (mode_after mode b) bs)
 
 -- a byte at the front of the first piece, or of the rest where there is none
 abbrev pub onto_first : ℕ → List (List ℕ) → List ℕ → Cuts

@@ -1,10 +1,10 @@
 -- What a cutter knows of the bytes that it was fed, and what it makes of a piece.
-use Rattle.std.specs.Prelude.{◌≡◌, ℕ, Bool, nat_le, nat_lt, if◌then◌else◌, List, [], ◌∷◌, ◌++◌, length, map, fold, Option, Some, None}
+use Rattle.std.specs.Prelude.{◌≡◌, ℕ, ◌+◌, Bool, false, nat_le, if◌then◌else◌, List, ◌++◌, length, map, fold, Option, Some, None}
 use Rattle.gx_lexer.specs.declared.cutter.Mode.{Mode}
 use Rattle.gx_lexer.specs.declared.cutter.Mode.TheVariants.{Plain}
 use Rattle.gx_lexer.specs.declared.piece.Piece.{Piece}
 use Rattle.gx_lexer.specs.declared.piece.Piece.TheVariants as piece
-use Rattle.gx_lexer.specs.Cut.{mode_after, ends, cut}
+use Rattle.gx_lexer.specs.Cut.{mode_after, cut}
 
 -- the greatest length of a piece, 1,048,576 bytes
 abbrev pub longest : ℕ
@@ -48,17 +48,12 @@ pub record CutsOn (cutter : Standing) (script chunk : List ℕ) (before after : 
   pub pieces : pieces_of (script ++ chunk) ≡ pieces_of script ++ added
   pub appended : after ≡ before ++ added
 
--- A byte more.
+-- more bytes behind those that are kept, while they aren't too many
+abbrev pub longer_by : Option (List ℕ) → List ℕ → Option (List ℕ)
+longer_by None more = None
+longer_by (Some bytes) more = if nat_le (length bytes + length more) longest then Some (bytes ++ more) else None
 
-abbrev pub longer_of : Option (List ℕ) → ℕ → Option (List ℕ)
-longer_of None b = None
-longer_of (Some bytes) b = if nat_lt (length bytes) longest then Some (bytes ++ b ∷ []) else None
-
-abbrev pub kept_after : Standing → ℕ → Option (List ℕ)
-kept_after s b = if ends s.mode b then Some [] else longer_of s.kept b
-
-abbrev pub standing_after : Standing → ℕ → Standing
-standing_after s b = record { mode = mode_after s.mode b; kept = kept_after s b; spoiled = s.spoiled }
-
-abbrev pub ended_at : Standing → ℕ → List Piece
-ended_at s b = if ends s.mode b then mark s.kept ∷ [] else []
+-- whatever script the first cutter was fed, it was fed these bytes too, and is no less sound
+pub record Feeds (first now : Standing) (done : List ℕ) (before after : List Piece) : Type 0 where
+  pub sound : now.spoiled ≡ false
+  pub cuts : (script : List ℕ) → Fed first script → CutsOn now script done before after

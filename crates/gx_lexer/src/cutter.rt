@@ -1,9 +1,9 @@
 //! The cutter: from the bytes of a script, as they come, to its pieces.
 
-ghost use Rattle.std.specs.Prelude.{◌≡◌, ℕ, Bool, true, false, List, [], ◌∷◌, ◌++◌, length, Option, Some, None, OnOk, OnErr, IfOk};
+ghost use Rattle.std.specs.Prelude.{◌≡◌, ◌≤◌, ℕ, Bool, true, false, List, [], ◌∷◌, ◌++◌, length, take, fold, Option, Some, None, OnOk, OnErr, IfOk};
 ghost use Rattle.gx_lexer.specs.declared.piece.Piece.{Piece};
 ghost use Rattle.gx_lexer.specs.Cut as cut;
-ghost use Rattle.gx_lexer.specs.Feeding.{Standing, CutsOn, Fed, last_of, mark, longer_of, kept_after, ended_at, standing_after};
+ghost use Rattle.gx_lexer.specs.Feeding.{Standing, CutsOn, Fed, Feeds, last_of, mark, longer_by};
 
 use crate::piece::{LONGEST, Piece, Pieces};
 use gx_bytes::{Bytes, NoMemory};
@@ -51,23 +51,20 @@ impl Cutter {
         }
     }
 
-    /// Appends the pieces that end in this chunk. Each byte is looked at once.
+    /// Appends the pieces that end in this chunk. Each byte is looked at once, and the bytes of a piece are kept at once.
     pub fn feed(&mut self, chunk: &[u8], to: &mut Pieces) -> Result<(), NoMemory>
         requires { self.old.spoiled ≡ false }
         ensures cuts { OnOk result ((script : List ℕ) → Fed self.old script → CutsOn self.new script chunk.now to.old to.new) }
         ensures ok { OnOk result (self.new.spoiled ≡ false) }
         ensures err { OnErr result (self.new.spoiled ≡ true) }
     {
-        for byte in chunk {
-            match self.take(*byte, to) {
-                Ok(()) => {}
-                Err(error) => {
-                    self.spoiled = true;
-                    return Err(error);
-                }
+        match self.take(chunk, to) {
+            Ok(()) => Ok(()),
+            Err(error) => {
+                self.spoiled = true;
+                Err(error)
             }
         }
-        Ok(())
     }
 
     /// Appends what stands behind the last `;`.
@@ -85,20 +82,67 @@ impl Cutter {
         self.spoiled
     }
 
-    fn take(&mut self, byte: u8, to: &mut Pieces) -> Result<(), NoMemory>
-        ensures stands { OnOk result (self.new ≡ standing_after self.old byte) }
-        ensures pieces { OnOk result (to.new ≡ to.old ++ ended_at self.old byte) }
+    fn take(&mut self, chunk: &[u8], to: &mut Pieces) -> Result<(), NoMemory>
+        requires { self.old.spoiled ≡ false }
+        ensures { OnOk result (Feeds self.old self.new chunk.now to.old to.new) }
     {
-        let kept = self.kept.take();
-        if ends(self.mode, byte) {
-            to.push(piece(kept))?;
-            self.kept = Some(Bytes::new(self.alloc));
-        } else {
-            self.kept = longer(kept, byte)?;
+        let mut rest = chunk;
+        'ends: loop {
+            let (n, mode) = self.front(rest);
+            let size = rest.len();
+            if n == size {
+                return self.keep(rest, mode);
+            }
+            self.end(&rest[..n], to)?;
+            rest = &rest[n + 1..];
         }
-        self.mode = mode_after(self.mode, byte);
+    }
+
+    /// How many bytes stand before the first that ends a piece, and what they leave open.
+    fn front(&self, bytes: &[u8]) -> (usize, Mode)
+        ensures len { result.0 ≡ cut.front_len self.now.mode bytes.now }
+        ensures within { result.0 ≤ length bytes.now }
+        ensures mode { result.1 ≡ fold cut.mode_after self.now.mode (take result.0 bytes.now) }
+    {
+        front(self.mode, bytes)
+    }
+
+    /// Keeps bytes of which none ends a piece, and which leave this open.
+    fn keep(&mut self, more: &[u8], mode: Mode) -> Result<(), NoMemory>
+        ensures { OnOk result (self.new ≡ record { mode = mode; kept = longer_by self.old.kept more.now; spoiled = self.old.spoiled }) }
+    {
+        self.kept = longer(self.kept.take(), more)?;
+        self.mode = mode;
         Ok(())
     }
+
+    /// Ends a piece behind these bytes.
+    fn end(&mut self, more: &[u8], to: &mut Pieces) -> Result<(), NoMemory>
+        ensures stands { OnOk result (self.new ≡ record { mode = Mode.Plain; kept = Some []; spoiled = self.old.spoiled }) }
+        ensures pieces { OnOk result (to.new ≡ to.old ++ mark (longer_by self.old.kept more.now) ∷ []) }
+    {
+        let kept = longer(self.kept.take(), more)?;
+        to.push(piece(kept))?;
+        self.kept = Some(Bytes::new(self.alloc));
+        self.mode = Mode::Plain;
+        Ok(())
+    }
+}
+
+/// How many bytes stand before the first that ends a piece, and what they leave open.
+fn front(mode: Mode, bytes: &[u8]) -> (usize, Mode)
+    ensures len { result.0 ≡ cut.front_len mode bytes.now }
+    ensures within { result.0 ≤ length bytes.now }
+    ensures mode { result.1 ≡ fold cut.mode_after mode (take result.0 bytes.now) }
+{
+    let mut open = mode;
+    for (i, byte) in bytes.iter().enumerate() {
+        if ends(open, *byte) {
+            return (i, open);
+        }
+        open = mode_after(open, *byte);
+    }
+    (bytes.len(), open)
 }
 
 /// Whether the byte ends the piece.
@@ -143,14 +187,14 @@ fn begun(byte: u8, dash: Mode) -> Mode
     }
 }
 
-/// One byte more, while they aren't too many.
-fn longer(kept: Option<Bytes>, byte: u8) -> Result<Option<Bytes>, NoMemory>
-    ensures { IfOk result (λ longer. longer ≡ longer_of kept byte) }
+/// More bytes, while they aren't too many.
+fn longer(kept: Option<Bytes>, more: &[u8]) -> Result<Option<Bytes>, NoMemory>
+    ensures { IfOk result (λ longer. longer ≡ longer_by kept more.now) }
 {
     match kept {
         Some(mut bytes) => {
-            if bytes.len() < LONGEST {
-                bytes.push(byte)?;
+            if more.len() <= LONGEST && bytes.len() <= LONGEST - more.len() {
+                bytes.extend_from_slice(more)?;
                 Ok(Some(bytes))
             } else {
                 Ok(None)

@@ -60,14 +60,15 @@ fn word_at(alloc: Global, first: u8, after: &[u8]) -> Result<(Option<Token>, usi
 }
 
 fn folded_word(alloc: Global, first: u8, others: &[u8]) -> Result<Bytes, NoMemory>
+    requires { length others.now < 63 }
     ensures { IfOk result (λ word. word ≡ map letters.folded (first ∷ others.now)) }
 {
-    let mut word = Bytes::new(alloc);
-    word.push(folded(first))?;
-    for byte in others {
-        word.push(folded(*byte))?;
+    let mut word = [0u8; 63];
+    word[0] = folded(first);
+    for (i, byte) in others.iter().enumerate() {
+        word[i + 1] = folded(*byte);
     }
-    Ok(word)
+    Bytes::from_slice(alloc, &word[..others.len() + 1])
 }
 
 fn number_at(alloc: Global, first: u8, after: &[u8]) -> Result<(Option<Token>, usize), NoMemory>
@@ -90,6 +91,20 @@ fn joined(alloc: Global, first: u8, others: &[u8]) -> Result<Bytes, NoMemory>
 
 /// A text behind its first quote.
 fn text_at(alloc: Global, after: &[u8]) -> Result<(Option<Token>, usize), NoMemory>
+    ensures found { IfOk result (λ found. found ≡ tokens.text_of after.now) }
+    ensures within { IfOk result (λ found. found.1 ≤ length after.now) }
+{
+    let n = unquoted_len(after);
+    if n < after.len() && !begins(&after[n + 1..], b'\'') {
+        let text = Bytes::from_slice(alloc, &after[..n])?;
+        Ok((Some(Token::Text(text)), n + 1))
+    } else {
+        doubled_text_at(alloc, after)
+    }
+}
+
+/// The same, byte by byte, where the text may have two quotes for each of its own.
+fn doubled_text_at(alloc: Global, after: &[u8]) -> Result<(Option<Token>, usize), NoMemory>
     ensures found { IfOk result (λ found. found ≡ tokens.text_of after.now) }
     ensures within { IfOk result (λ found. found.1 ≤ length after.now) }
 {
@@ -291,6 +306,14 @@ fn digits_len(bytes: &[u8]) -> usize
     ensures within { result ≤ length bytes.now }
 {
     bytes.iter().take_while(|b| is_digit(**b)).count()
+}
+
+/// The number of bytes before the first quote.
+fn unquoted_len(bytes: &[u8]) -> usize
+    ensures len { result ≡ prefix_len (λ b. not (b == 39)) bytes.now }
+    ensures within { result ≤ length bytes.now }
+{
+    bytes.iter().take_while(|b| **b != b'\'').count()
 }
 
 fn comment_len(bytes: &[u8]) -> usize

@@ -1,2 +1,4 @@
-pub mod ResolvingLemmas
+pub mod DecisionLemmas
+pub mod OneOperand
 pub mod QueryLemmas
+pub mod ResolvingLemmas

@@ -3,7 +3,9 @@ use Rattle.std.proofs.Common.{◌≡◌, ℕ, suc, ◌+◌, ◌<◌, ◌≤◌, 
 use Rattle.std.proofs.Math.Seq.{drop-cons}
 use Rattle.std.proofs.lemmas.List.{take_more, take_all}
 use Rattle.gx_bytes.specs.declared.error.ValueError.{ValueError}
+use Rattle.std.specs.List.{AllByRecursion}
 use Rattle.gx_lquery.specs.declared.query.Lquery.{Lquery}
+use Rattle.gx_lquery.specs.Query.{IsLquery}
 use Rattle.gx_opr.specs.Literals.{SpellsElement, RefusesElement, AreQueries, RefusesQueries}
 
 push_query : (texts : List (List ℕ)) (queries : List Lquery) (text : List ℕ) (query : Lquery) → AreQueries texts queries → SpellsElement text query → AreQueries (texts ++ text ∷ []) (queries ++ query ∷ [])
@@ -41,3 +43,11 @@ query_refused texts i x bytes queries e below is same h r =
 pub queries_read : (texts : List (List ℕ)) (i : ℕ) (queries : List Lquery) → length texts ≤ i → AreQueries (take i texts) queries → AreQueries texts queries
 queries_read texts i queries above h =
     let P : List (List ℕ) → Type 0 = λ l. AreQueries l queries in subst P (take_all i texts above) h
+
+-- one valid query more
+valid_and : (queries : List Lquery) (query : Lquery) → AllByRecursion IsLquery queries → IsLquery query → AllByRecursion IsLquery (queries ++ query ∷ [])
+valid_and [] query h v = (v, tt)
+valid_and (q ∷ queries) query h v = (h.0, valid_and queries query h.1 v)
+
+pub valid_more : (queries longer : List Lquery) (query : Lquery) → longer ≡ queries ++ query ∷ [] → AllByRecursion IsLquery queries → IsLquery query → AllByRecursion IsLquery longer
+valid_more queries longer query pushed h v = let P : List Lquery → Type 0 = λ l. AllByRecursion IsLquery l in subst P (sym pushed) (valid_and queries query h v)

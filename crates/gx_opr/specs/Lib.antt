@@ -1,4 +1,5 @@
-pub mod Operands
-pub mod Resolving
+pub mod Decisions
 pub mod Literals
+pub mod Operands
 pub mod Operators
+pub mod Resolving

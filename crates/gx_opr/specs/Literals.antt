@@ -1,13 +1,16 @@
 -- Literals as right sides of operators: what each type reads.
-use Rattle.std.specs.Prelude.{◌≡◌, ℕ, List, [], ◌∷◌, ◌++◌, Option, None, Some, Ok, Err, IsUtf8, ◌⊎◌}
+use Rattle.std.specs.Prelude.{◌≡◌, ℕ, List, [], ◌∷◌, ◌++◌, Option, None, Some, Result, Ok, Err, IsUtf8, ◌⊎◌}
 use Rattle.std.specs.List.{AllZip}
 use Rattle.gx_bytes.specs.declared.error.ValueError.{ValueError}
 use Rattle.gx_bytes.specs.declared.error.ValueError.TheVariants.{NoValue, Memory}
 use Rattle.gx_intarr.specs.Texts.{AnswersTexts}
+use Rattle.gx_formula.specs.Grammar.{SpellsFormula}
+use Rattle.gx_intarr.specs.Numbers.{TakesInt4}
 use Rattle.gx_intarr.specs.Queries.{AnswersQuery}
 use Rattle.gx_lquery.specs.declared.query.Lquery.{Lquery}
 use Rattle.gx_lquery.specs.Text.{AnswersLquery}
 use Rattle.gx_ltxtquery.specs.Text.{AnswersLtxtquery}
+use Rattle.gx_ltxtquery.specs.Words.{TakesWord}
 use Rattle.gx_value.specs.declared.types.ColumnType.{ColumnType}
 use Rattle.gx_value.specs.declared.types.OperandType.{OperandType}
 use Rattle.gx_value.specs.declared.types.OperandType.TheVariants as operand
@@ -47,8 +50,8 @@ abbrev pub SpellsRight : OperandType → List ℕ → Right → Type 0
 SpellsRight operand.TextArray text (texts ts) = AnswersTexts text (Ok ts)
 SpellsRight operand.Lquery text (lquery q) = AnswersLquery text (Ok q)
 SpellsRight operand.LqueryArray text (lqueries qs) = (elements : List (List ℕ)) × AnswersTexts text (Ok elements) × AreQueries elements qs
-SpellsRight operand.Ltxtquery text (ltxtquery q) = AnswersLtxtquery text (Ok q)
-SpellsRight operand.QueryInt text (query_int q) = AnswersQuery text (Ok q)
+SpellsRight operand.Ltxtquery text (ltxtquery t) = SpellsFormula TakesWord text t
+SpellsRight operand.QueryInt text (query_int t) = SpellsFormula TakesInt4 text t
 SpellsRight _ _ _ = ⊥
 
 -- the text is refused with this error
@@ -111,3 +114,8 @@ RefusesAs kind None literal e = RefusesTexts kind literal.form literal.texts e
 
 abbrev pub RefusesOperand : OperandType → Literal → ValueError → Type 0
 RefusesOperand kind literal e = RefusesAs kind (as_column kind) literal e
+
+-- what each answer of the reader says of the literal
+abbrev pub AnswersOperand : OperandType → Literal → Result (Option Right) ValueError → Type 0
+AnswersOperand kind literal (Ok found) = ReadsOperand kind literal found
+AnswersOperand kind literal (Err e) = RefusesOperand kind literal e

@@ -1,8 +1,12 @@
 -- The right sides of operators, and which are valid.
-use Rattle.std.specs.Prelude.{◌≡◌, ℕ, true, List, Option, None, Some}
-use Rattle.gx_intarr.specs.declared.formula.QueryInt.{QueryInt}
+use Rattle.std.specs.Prelude.{◌≡◌, ℕ, ℤ, true, List, Option, None, Some}
+use Rattle.std.specs.List.{AllByRecursion}
+use Rattle.gx_formula.specs.Formula.{Tree}
+use Rattle.gx_intarr.specs.Formula as numbers
 use Rattle.gx_lquery.specs.declared.query.Lquery.{Lquery}
-use Rattle.gx_ltxtquery.specs.declared.formula.Ltxtquery.{Ltxtquery}
+use Rattle.gx_lquery.specs.declared.variant.Variant.{Variant}
+use Rattle.gx_lquery.specs.Query.{IsLquery}
+use Rattle.gx_ltxtquery.specs.Formula as words
 use Rattle.gx_value.specs.declared.types.ColumnType.{ColumnType}
 use Rattle.gx_value.specs.declared.types.OperandType.{OperandType}
 use Rattle.gx_value.specs.declared.types.OperandType.TheVariants as operand
@@ -14,14 +18,14 @@ use Rattle.gx_opr.specs.declared.operand.Part.{Part}
 use Rattle.gx_opr.specs.declared.operand.Part.TheVariants as part
 use Rattle.gx_opr.specs.declared.operand.Operand.{Operand}
 
--- a value as plain data, texts, a query over paths or some, a formula of words or of numbers
+-- a value as plain data, texts, a query over paths or some, a formula of words or of numbers as a tree
 pub data Right : Type 0 where
   datum : Datum → Right
   texts : List (List ℕ) → Right
   lquery : Lquery → Right
   lqueries : List Lquery → Right
-  ltxtquery : Ltxtquery → Right
-  query_int : QueryInt → Right
+  ltxtquery : Tree Variant → Right
+  query_int : Tree ℤ → Right
 
 -- what a right side of the code is
 abbrev pub right_of : Part → Right
@@ -29,8 +33,8 @@ right_of (part.Value v) = datum (datum_of v)
 right_of (part.Texts ts) = texts ts
 right_of (part.Lquery q) = lquery q
 right_of (part.Lqueries qs) = lqueries qs
-right_of (part.Ltxtquery q) = ltxtquery q
-right_of (part.QueryInt q) = query_int q
+right_of (part.Ltxtquery q) = ltxtquery (words.tree_of q.formula)
+right_of (part.QueryInt q) = query_int (numbers.tree_of q.formula)
 
 abbrev pub IsDatumOf : Option ColumnType → Datum → Type 0
 IsDatumOf None d = ⊥
@@ -39,10 +43,10 @@ IsDatumOf (Some kind) d = IsValue kind d
 -- a valid right side of the type
 abbrev pub IsRight : OperandType → Right → Type 0
 IsRight operand.TextArray (texts ts) = Unit {0}
-IsRight operand.Lquery (lquery q) = Unit {0}
-IsRight operand.LqueryArray (lqueries qs) = Unit {0}
-IsRight operand.Ltxtquery (ltxtquery q) = Unit {0}
-IsRight operand.QueryInt (query_int q) = Unit {0}
+IsRight operand.Lquery (lquery q) = IsLquery q
+IsRight operand.LqueryArray (lqueries qs) = AllByRecursion IsLquery qs
+IsRight operand.Ltxtquery (ltxtquery t) = Unit {0}
+IsRight operand.QueryInt (query_int t) = Unit {0}
 IsRight kind (datum d) = IsDatumOf (as_column kind) d
 IsRight _ _ = ⊥
 

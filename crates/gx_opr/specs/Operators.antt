@@ -18,9 +18,11 @@ use Rattle.gx_ltree.specs.declared.operators.LtreeOp.{LtreeOp}
 use Rattle.gx_ltree.specs.declared.operators.LtreeOp.TheVariants as ltree_ops
 use Rattle.gx_ltxtquery.specs.declared.operators.LtreeQuery.TheVariants as path_queries
 use Rattle.gx_ltxtquery.specs.Operators as of_paths
+use Rattle.gx_ltxtquery.specs.Formula as of_words
 use Rattle.gx_hstore.specs.Map.{Pair}
 use Rattle.gx_hstore.specs.Operators as of_maps
 use Rattle.gx_intarr.specs.declared.operators.IntQuery.TheVariants as array_queries
+use Rattle.gx_intarr.specs.Formula as of_numbers
 use Rattle.gx_intarr.specs.Operators as of_arrays
 use Rattle.serde_json.specs.Data.{Data}
 use Rattle.gx_json.specs.Operators as of_documents
@@ -100,7 +102,7 @@ abbrev pub HoldsOfPath : Operator → List (List ℕ) → rights.Right → Type 
 HoldsOfPath op v (rights.datum (values.path q)) = IsSomeAnd (ltree_op op) (λ o. of_paths.Holds (path_queries.Path o q) v)
 HoldsOfPath Matches v (rights.lquery q) = of_paths.Holds (path_queries.Lquery q) v
 HoldsOfPath Has v (rights.lqueries qs) = of_paths.Holds (path_queries.Lqueries qs) v
-HoldsOfPath Words v (rights.ltxtquery q) = of_paths.Holds (path_queries.Words q) v
+HoldsOfPath Words v (rights.ltxtquery t) = of_words.IsTrueOf t v
 HoldsOfPath _ _ _ = ⊥
 
 abbrev pub HoldsOfHstore : Operator → List Pair → rights.Right → Type 0
@@ -115,7 +117,7 @@ HoldsOfArray Overlaps v (rights.datum (values.int_array q)) = of_arrays.Holds (a
 HoldsOfArray Contains v (rights.datum (values.int_array q)) = of_arrays.Holds (array_queries.Contains q) v
 HoldsOfArray Within v (rights.datum (values.int_array q)) = of_arrays.Holds (array_queries.Within q) v
 HoldsOfArray Equal v (rights.datum (values.int_array q)) = of_arrays.Holds (array_queries.Equal q) v
-HoldsOfArray Formula v (rights.query_int q) = of_arrays.Holds (array_queries.Formula q) v
+HoldsOfArray Formula v (rights.query_int t) = of_numbers.IsTrueOf t v
 HoldsOfArray _ _ _ = ⊥
 
 abbrev pub HoldsOfJson : Operator → Data → rights.Right → Type 0

@@ -2,11 +2,13 @@
 //! operator holds.
 #![tactic(auto)]
 
+mod laws;
 mod operand;
 mod operators;
 mod resolving;
 mod text;
 
+pub use laws::{decided, one_operand};
 pub use operand::{Operand, Part};
 pub use operators::holds;
 pub use resolving::{NoOperator, resolve};

@@ -1,6 +1,8 @@
 //! Literals as right sides of operators.
 
 ghost use Rattle.std.specs.Prelude.{◌≡◌, true, None, IsUtf8, IfOk, IfErr, MatchOption, MatchResult, option_map};
+ghost use Rattle.std.specs.List.{AllByRecursion};
+ghost use Rattle.gx_lquery.specs.Query.{IsLquery};
 ghost use Rattle.gx_value.specs.Types.{as_column};
 ghost use Rattle.gx_value.specs.Literals.{IsLiteral, HasTexts};
 ghost use Rattle.gx_value.specs.declared.types.OperandType.TheVariants as operand;
@@ -125,7 +127,8 @@ fn part_of_text(alloc: Global, kind: OperandType, text: &str) -> Result<Part, Va
 
 /// The queries of an array text.
 fn queries_of_text(alloc: Global, text: &str) -> Result<Lqueries, ValueError>
-    ensures { MatchResult result (λ qs. SpellsRight operand.LqueryArray text.now (lqueries qs)) (RefusesRight operand.LqueryArray text.now) }
+    ensures answers { MatchResult result (λ qs. SpellsRight operand.LqueryArray text.now (lqueries qs)) (RefusesRight operand.LqueryArray text.now) }
+    ensures valid { IfOk result (λ qs. AllByRecursion IsLquery qs) }
 {
     let texts = Texts::read(alloc, text)?;
     queries_of(alloc, texts.as_slice())
@@ -133,7 +136,8 @@ fn queries_of_text(alloc: Global, text: &str) -> Result<Lqueries, ValueError>
 
 /// The queries of the elements, from the left.
 fn queries_of(alloc: Global, texts: &[Bytes]) -> Result<Lqueries, ValueError>
-    ensures { MatchResult result (AreQueries texts.now) (RefusesQueries texts.now) }
+    ensures answers { MatchResult result (AreQueries texts.now) (RefusesQueries texts.now) }
+    ensures valid { IfOk result (λ qs. AllByRecursion IsLquery qs) }
 {
     let mut queries = Lqueries::new(alloc);
     for text in texts {
@@ -146,7 +150,8 @@ fn queries_of(alloc: Global, texts: &[Bytes]) -> Result<Lqueries, ValueError>
 }
 
 fn query_of(alloc: Global, text: &[u8]) -> Result<Lquery, ValueError>
-    ensures { MatchResult result (SpellsElement text.now) (RefusesElement text.now) }
+    ensures answers { MatchResult result (SpellsElement text.now) (RefusesElement text.now) }
+    ensures valid { IfOk result (λ query. IsLquery query) }
 {
     match str::from_utf8(text) {
         Ok(text) => Lquery::read(alloc, text),

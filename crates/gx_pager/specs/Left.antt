@@ -90,6 +90,10 @@ counted_zero (Some page) header below count some has = cut_some (nat_lt 0 some) 
 pub counted_committed : (header : List ℕ) (below : Option (List ℕ)) (count some : ℕ) → HasCount header count → IfSome (cond (nat_lt 0 some) (over (Some header) below) None) (λ h. HasCount h count)
 counted_committed header below count some has = cut_some (nat_lt 0 some) (Some header) (λ h. HasCount h count) has
 
+-- a map that is cut has no page above
+pub cut_ends : (count : ℕ) (map : PageMap) (n : ℕ) → count ≤ n → cut count map n ≡ None
+cut_ends count map n le = grind (arith, common_steps)
+
 module _ {D : Type 0} {g : Ghosts D} where
   pub follows_same : (disk : D) → Follows g disk disk
   follows_same disk = record {

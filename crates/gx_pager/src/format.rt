@@ -6,8 +6,7 @@ ghost use Rattle.gx_words.specs.Image.{Image};
 ghost use Rattle.gx_disk.specs.Areas.{Settled};
 ghost use Rattle.gx_disk.specs.declared.area.Area.TheVariants.{Log};
 ghost use Rattle.gx_log.specs.Records.{Stands, HasMap};
-ghost use Rattle.gx_pages.specs.Contents.{below, given};
-ghost use Rattle.gx_pages.specs.Databases.{header_of, catalog_page};
+ghost use Rattle.gx_pages.specs.Databases.{empty_pages};
 
 use crate::places::write_page;
 use gx_disk::{Area, Disk};
@@ -16,7 +15,7 @@ use gx_pages::{empty_catalog, header_page};
 
 /// Makes an empty database of two pages, whatever the disk held.
 pub fn format<D: Disk>(disk: &mut D) -> Result<(), Failed>
-    ensures empty { OnOk result (D.tells → (c : Image) → D.now_may_leave disk.new c → HasMap c (below 2 (given (header_of 2 ∷ catalog_page ∷ [])))) }
+    ensures empty { OnOk result (D.tells → (c : Image) → D.now_may_leave disk.new c → HasMap c empty_pages) }
     ensures said { D.said disk.new ≡ D.said disk.old }
     ensures faults { D.faults disk.old ≤ D.faults disk.new }
     ensures failed { IsErr result → Rose (D.faults disk.old) (D.faults disk.new) }

@@ -7,8 +7,7 @@ ghost use Rattle.gx_bytes.specs.Fields.{le32, le64};
 ghost use Rattle.gx_words.specs.Causes.{Rose};
 ghost use Rattle.gx_words.specs.Image.{Image};
 ghost use Rattle.gx_log.specs.Records.{Record, Stands, HasMap, entries_in};
-ghost use Rattle.gx_pages.specs.Contents.{below, given};
-ghost use Rattle.gx_pages.specs.Databases.{header_of, catalog_page};
+ghost use Rattle.gx_pages.specs.Databases.{empty_pages};
 ghost use Rattle.gx_pages.specs.Frees.{HasCount, HasFirst};
 ghost use Rattle.gx_pager.specs.Cached.{Agrees};
 ghost use Rattle.gx_pager.specs.Known.{IsSound};
@@ -70,7 +69,7 @@ fn with_heap(count: u64, page: &Page) -> u64
 impl<'h, H: Host> Pager<'h, H> {
     /// Makes an empty database of two pages, whatever the disk held.
     pub fn format(host: &mut H) -> Result<(), Failed>
-        ensures empty { OnOk result (H.tells → (c : Image) → H.now_may_leave host.new c → HasMap c (below 2 (given (header_of 2 ∷ catalog_page ∷ [])))) }
+        ensures empty { OnOk result (H.tells → (c : Image) → H.now_may_leave host.new c → HasMap c empty_pages) }
         ensures said { H.said host.new ≡ H.said host.old }
         ensures faults { H.faults host.old ≤ H.faults host.new }
         ensures failed { IsErr result → Rose (H.faults host.old) (H.faults host.new) }
@@ -162,9 +161,9 @@ impl<'h, H: Host> Pager<'h, H> {
 
 impl<'h, H: Host> Pages for Pager<'h, H> {
     ghost use Rattle.gx_words.specs.Image.{Image};
-    ghost use Rattle.gx_pager.specs.Left.{MapLeft, MapSince, Follows, committed_left, counted_zero, counted_committed, follows_same, follows_join};
-    ghost use Rattle.gx_pager.specs.Layers.{pieces};
-    ghost use Rattle.gx_pager.specs.Memory.{committed_memory, overlay, unit, now_map, committed_map};
+    ghost use Rattle.gx_pager.specs.Left.{MapLeft, MapSince, Follows, committed_left, counted_zero, counted_committed, cut_ends, follows_same, follows_join};
+    ghost use Rattle.gx_pager.specs.Layers.{pieces, map_over};
+    ghost use Rattle.gx_pager.specs.Memory.{memory, committed_memory, overlay, unit, now_map, committed_map};
     ghost use Rattle.std.proofs.Common.{refl, ◌∙◌};
 
     ghost tells = { H.tells };
@@ -208,6 +207,10 @@ impl<'h, H: Host> Pages for Pager<'h, H> {
     ghost committed_counted = { λ p told. counted_committed p.layers.header (pieces (H.told p.host.now) 0) p.layers.committed_count p.layers.committed_count p.layers.committed_counted };
 
     ghost committed_bounded = { λ p. p.layers.committed_bounded };
+
+    ghost ends = { λ p told. cut_ends p.layers.count (map_over (memory p.layers) (pieces (H.told p.host.now))) };
+
+    ghost committed_ends = { λ p told. cut_ends p.layers.committed_count (map_over (committed_memory p.layers) (pieces (H.told p.host.now))) };
 
     ghost committed_may_stay = { λ p told sound. committed_left p.host.now p.log p.layers.header (overlay p.layers) p.layers.committed_count told (H.told_may_stay p.host.now told) p.layers.committed_counted p.layers.committed_bounded (p.sound told sound) };
 

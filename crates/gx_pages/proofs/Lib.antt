@@ -1,4 +1,5 @@
 mod Causes
+pub mod Emptiness
 mod FreePages
 mod Giving
 pub mod Headers
@@ -7,5 +8,6 @@ mod Parts
 mod Restoring
 pub mod Rising
 pub mod Footprints
+mod Sorting
 mod Spelling
 pub mod Taking

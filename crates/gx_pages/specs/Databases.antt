@@ -1,7 +1,8 @@
 -- An empty database, and what a taken or a given page makes of a map.
-use Rattle.std.specs.Prelude.{ℕ, ◌+◌, List, ◌∷◌, ◌++◌, replicate}
+use Rattle.std.specs.Prelude.{ℕ, ◌+◌, List, [], ◌∷◌, ◌++◌, replicate}
 use Rattle.gx_bytes.specs.Fields.{le16, le32, le64, paste}
 use Rattle.gx_words.specs.PageMap.{PageMap, with_page}
+use Rattle.gx_pages.specs.Contents.{below, given}
 use Rattle.gx_pages.specs.Frees.{free_page_of}
 
 -- The header: the bytes PGIX as a number, the format, the count, the first free page or 0, the first catalog page.
@@ -12,6 +13,10 @@ header_of count = le32 1481197392 ++ le32 2 ++ le64 count ++ le64 0 ++ le64 1 ++
 -- next page or 0, and zeros.
 unfoldable pub catalog_page : List ℕ
 catalog_page = 3 ∷ 0 ∷ le16 0 ++ le16 8192 ++ le16 0 ++ le64 0 ++ replicate 8176 0
+
+-- the pages of an empty database
+abbrev pub empty_pages : PageMap
+empty_pages = below 2 (given (header_of 2 ∷ catalog_page ∷ []))
 
 -- the page at the count was taken
 abbrev pub grown : PageMap → List ℕ → ℕ → PageMap

@@ -1,9 +1,11 @@
 -- What pages in memory stand for, as a store.
 use Rattle.std.specs.Prelude.{◌≡◌, ◌⊎◌, ℕ, ◌≤◌, Bool, false, List, [], ◌∷◌, length, Some, None, IfSome, refl}
 use Rattle.std.proofs.Common.{inl, inr, arith, nat_lt, cond, true}
+use Rattle.std.proofs.lemmas.Grind.{common_steps}
 use Rattle.gx_words.specs.Causes.{Said}
 use Rattle.gx_words.specs.Moments.{Moment, Now}
 use Rattle.gx_words.specs.PageMap.{PageMap}
+use Rattle.gx_pages.specs.Contents.{Contents, below}
 use Rattle.gx_pages.specs.Frees.{HasCount}
 use Rattle.gx_pages.specs.Tables.{now_at, was_at, map_of, committed_of}
 use Rattle.gx_pages.specs.declared.table.PageTable.{PageTable}
@@ -54,6 +56,15 @@ memory_counted s = if_below (nat_lt 0 s.table.count) (now_at s.table 0) (λ head
 pub memory_committed_counted : (s : MemoryPages) → IfSome (memory_committed s 0) (λ header. HasCount header s.table.committed_count)
 memory_committed_counted s =
     if_below (nat_lt 0 s.table.committed_count) (was_at s.table 0) (λ header. HasCount header s.table.committed_count) s.committed_counted.header
+
+none_above : (count : ℕ) (contents : Contents) (n : ℕ) → count ≤ n → below count contents n ≡ None
+none_above count contents n le = grind (arith, common_steps)
+
+pub memory_ends : (s : MemoryPages) (n : ℕ) → s.table.count ≤ n → memory_map s n ≡ None
+memory_ends s n le = none_above s.table.count (now_at s.table) n le
+
+pub memory_committed_ends : (s : MemoryPages) (n : ℕ) → s.table.committed_count ≤ n → memory_committed s n ≡ None
+memory_committed_ends s n le = none_above s.table.committed_count (was_at s.table) n le
 
 none_later : (past : List PageTable) (t : ℕ) (m : Moment PageMap) → length past ≤ t → Since past t m → ⊥
 none_later [] t m later since = since

@@ -1,8 +1,9 @@
 //! A list of rows by rising numbers.
 
-ghost use Rattle.std.specs.Prelude.{◌≡◌, [], ◌∷◌, ◌++◌, List, length, take, ◌↔◌, IsTrue, OnOk, OnErr};
+ghost use Rattle.std.specs.Prelude.{◌≡◌, ℕ, ◌+◌, ◌<◌, ◌≤◌, [], ◌∷◌, ◌++◌, List, length, take, ◌↔◌, IsTrue, IfSome, IfNone, MatchBool, OnOk, OnErr};
+ghost use Rattle.std.specs.List.Sorted.{IsPermutation, IsNonDecreasingBy};
 ghost use Rattle.gx_pages.specs.declared.row.RowRef.{RowRef};
-ghost use Rattle.gx_pages.specs.Rows.{AreBelow, IsRising};
+ghost use Rattle.gx_pages.specs.Rows.{AreBelow, HasNumber, HasTwice, IsRising};
 
 use crate::row::RowRef;
 use std::alloc::{AllocError, Global};
@@ -36,6 +37,20 @@ impl Bitmap {
         }
     }
 
+    /// These rows, by rising numbers. None exactly where two of them have one number.
+    pub fn of(rows: Vec<RowRef>) -> Option<Bitmap>
+        ensures rising { IfSome result (λ bitmap. IsRising bitmap) }
+        ensures all { IfSome result (λ bitmap. IsPermutation rows.items bitmap) }
+        ensures none { IfNone result (HasTwice rows.items) }
+    {
+        let mut rows = rows;
+        rows.sort_unstable_by_key(|row| row.number);
+        if !are_rising(rows.as_slice()) {
+            return None;
+        }
+        Some(Bitmap { rows })
+    }
+
     /// The rows, by rising numbers.
     pub fn as_slice(&self) -> &[RowRef]
         ensures value { result.now ≡ self.now }
@@ -62,6 +77,16 @@ impl Bitmap {
         self.rows.len()
     }
 
+    /// Tells whether a row has this number, by halving.
+    pub fn has(&self, number: u64) -> bool
+        ensures { IsTrue result ↔ HasNumber self.now number }
+    {
+        match self.rows.binary_search_by_key(&number, |row| row.number) {
+            Ok(_) => true,
+            Err(_) => false,
+        }
+    }
+
     /// Keeps the first rows, so many of them.
     pub fn truncate(&mut self, len: usize)
         ensures { self.new ≡ take len self.old }
@@ -78,4 +103,17 @@ impl Bitmap {
             [] => true,
         }
     }
+}
+
+// Tells whether the numbers, which don't fall, rise.
+fn are_rising(rows: &[RowRef]) -> bool
+    requires { IsNonDecreasingBy (λ row. row.number) rows.now }
+    ensures { MatchBool result (IsRising rows.now) (HasTwice rows.now) }
+{
+    for at in 1..rows.len() {
+        if rows[at - 1].number == rows[at].number {
+            return false;
+        }
+    }
+    true
 }

@@ -20,7 +20,7 @@ pub use bitmap::Bitmap;
 pub use error::PageError;
 pub use free::{free_page, next_free};
 pub use header::{empty_catalog, first_free, header_page, set_count, set_first_free};
-pub use laws::lacks_none;
+pub use laws::{empty_database, lacks_none};
 pub use memory::MemoryPages;
 pub use page::Page;
 pub use row::RowRef;

@@ -1,8 +1,8 @@
 //! A store in memory.
 
-ghost use Rattle.std.specs.Prelude.{◌≡◌, ◌^◌, ◌<◌, ◌≤◌, [], ◌∷◌, length, slice_index_or, IfOk};
+ghost use Rattle.std.specs.Prelude.{◌≡◌, ◌^◌, ◌<◌, ◌≤◌, [], length, slice_index_or, IfOk};
 ghost use Rattle.gx_pages.specs.Contents.{IsCounted, below, given};
-ghost use Rattle.gx_pages.specs.Databases.{header_of, catalog_page};
+ghost use Rattle.gx_pages.specs.Databases.{empty_pages};
 ghost use Rattle.gx_pages.specs.Frees.{HasCount};
 ghost use Rattle.gx_pages.specs.Tables.{now_at, was_at};
 
@@ -37,7 +37,7 @@ impl MemoryPages {
 
     /// An empty database: the header, and a catalog page without items.
     pub fn new(alloc: Global) -> Result<MemoryPages, AllocError>
-        ensures { IfOk result (IsFresh (below 2 (given (header_of 2 ∷ catalog_page ∷ []))) 2) }
+        ensures { IfOk result (IsFresh empty_pages 2) }
     {
         MemoryPages::with(alloc, &[header_page(2), empty_catalog()], 2)
     }
@@ -71,7 +71,7 @@ impl MemoryPages {
 
 impl Pages for MemoryPages {
     ghost use Rattle.std.specs.Prelude.{false, refl};
-    ghost use Rattle.gx_pages.specs.Memories.{nothing_said, memory_map, memory_committed, memory_moment, memory_leaves, memory_since, memory_counted, memory_committed_counted, memory_counts, memory_only};
+    ghost use Rattle.gx_pages.specs.Memories.{nothing_said, memory_map, memory_committed, memory_moment, memory_leaves, memory_since, memory_counted, memory_committed_counted, memory_ends, memory_committed_ends, memory_counts, memory_only};
 
     ghost tells = { Unit {0} };
 
@@ -114,6 +114,10 @@ impl Pages for MemoryPages {
     ghost committed_counted = { λ s told. memory_committed_counted s };
 
     ghost committed_bounded = { λ s. s.committed_counted.bounded };
+
+    ghost ends = { λ s told. memory_ends s };
+
+    ghost committed_ends = { λ s told. memory_committed_ends s };
 
     ghost committed_may_stay = { λ s told sound. refl };
 

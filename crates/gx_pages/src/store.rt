@@ -129,6 +129,11 @@ pub trait Pages {
 
     ghost committed_bounded: { (s : Self) → committed_count s ≤ 2 ^ 50 };
 
+    // Neither map has a page at or above its count.
+    ghost ends: { (s : Self) → tells → (n : ℕ) → count s ≤ n → map s n ≡ None };
+
+    ghost committed_ends: { (s : Self) → tells → (n : ℕ) → committed_count s ≤ n → committed s n ≡ None };
+
     // What is committed a crash may leave, and what it may leave now counts since each earlier moment; since this moment
     // there is no other.
     ghost committed_may_stay: { (s : Self) → tells → spoiled s ≡ false → may_leave s (committed s) };

@@ -5,6 +5,7 @@ mod FaultFacts
 mod GivenFacts
 mod GoingFacts
 mod HeadFacts
+mod OneFault
 mod RunFacts
 mod SaidFacts
 mod SoundFacts

@@ -1,10 +1,45 @@
 //! Whether bytes are those of a slot page.
 
-ghost use Rattle.std.specs.Prelude.{◌≡◌, ◌≢◌, ℕ, ◌+◌, ◌≤◌, ◌↔◌, IsTrue, [], ◌∷◌, length, take, drop, replicate, IfSome, IfNone};
-ghost use Rattle.gx_slot.specs.Slots.{IsSpelled, entries, read, slot_of};
+ghost use Rattle.std.specs.Prelude.{◌≡◌, ◌≢◌, ℕ, ◌+◌, ◌≤◌, ◌↔◌, IsTrue, [], ◌∷◌, length, take, drop, replicate, IfSome, IfNone, IfErr, OnOk, OnErr};
+ghost use Rattle.gx_slot.specs.Slots.{IsBroken, IsSlotPage, IsSpelled, entries, read, slot_of};
 ghost use Rattle.gx_slot.specs.Tables.{IsEntry, IsTable};
 
 use crate::layout::{field_at, next_of, read_count};
+use gx_pages::{Page, PageError};
+
+/// Whether the page is a slot page of this kind. Broken, with its number, where it is none.
+pub fn check_page(page: &Page, number: u64, kind: u8) -> Result<(), PageError>
+    ensures ok { OnOk result (IsSpelled page.now × ((read page.now).kind ≡ kind)) }
+    ensures err { OnErr result (¬ IsSlotPage page.now kind) }
+    ensures cause { IfErr result (λ error. IsBroken number error) }
+{
+    let bytes = page.bytes();
+    let found = u64::from(bytes[0]);
+    let expected = u64::from(kind);
+    if found != expected {
+        return Err(PageError::Broken {
+            page: number,
+            expected,
+            found,
+        });
+    }
+    let count = u64::from(read_count(bytes));
+    if count > 2044 {
+        return Err(PageError::Broken {
+            page: number,
+            expected: 2044,
+            found: count,
+        });
+    }
+    if !is_spelled(bytes) {
+        return Err(PageError::Broken {
+            page: number,
+            expected: 1,
+            found: 0,
+        });
+    }
+    Ok(())
+}
 
 /// Whether the page is the spelling of what it is read as.
 pub fn is_spelled(page: &[u8]) -> bool

@@ -4,7 +4,7 @@ ghost use Rattle.std.specs.Prelude.{◌≡◌, ℕ, ◌+◌, ◌<◌, ◌≤◌,
 ghost use Rattle.std.specs.Option.{option_map};
 ghost use Rattle.gx_slot.specs.Slots.{Slots, Fits, GrowsBy, IsBroken, IsSlotPage, growth, item_at, read, spelling, taken, with_item, with_slot};
 
-use crate::checking::is_spelled;
+use crate::checking::check_page;
 use crate::layout::{
     NoRoom, add_empty, add_item, begin, count_of, free_of, item_of, next_of, part_at, put_next,
     read_count,
@@ -40,40 +40,27 @@ impl SlotPage {
         SlotPage { page }
     }
 
-    /// The slot page that the bytes spell. Broken, with the page's number, where they spell none of this kind.
+    /// The slot page that the bytes spell, in a copy of them. Broken, with the page's number, where they spell none of this
+    /// kind.
     pub fn read(page: &Page, number: u64, kind: u8) -> Result<SlotPage, PageError>
         ensures ok { IfOk result (λ slots. (page.now ≡ spelling slots) × (slots.kind ≡ kind)) }
         ensures err { OnErr result (¬ IsSlotPage page.now kind) }
         ensures cause { IfErr result (λ error. IsBroken number error) }
     {
-        let bytes = page.bytes();
-        let found = u64::from(bytes[0]);
-        let expected = u64::from(kind);
-        if found != expected {
-            return Err(PageError::Broken {
-                page: number,
-                expected,
-                found,
-            });
-        }
-        let count = u64::from(read_count(bytes));
-        if count > 2044 {
-            return Err(PageError::Broken {
-                page: number,
-                expected: 2044,
-                found: count,
-            });
-        }
-        if !is_spelled(bytes) {
-            return Err(PageError::Broken {
-                page: number,
-                expected: 1,
-                found: 0,
-            });
-        }
+        check_page(page, number, kind)?;
         let mut copy = Page::zero();
-        copy.bytes_mut().copy_from_slice(bytes);
+        copy.bytes_mut().copy_from_slice(page.bytes());
         Ok(SlotPage { page: copy })
+    }
+
+    /// The slot page that these bytes spell. Broken, with the page's number, where they spell none of this kind.
+    pub fn of(page: Page, number: u64, kind: u8) -> Result<SlotPage, PageError>
+        ensures ok { IfOk result (λ slots. (page ≡ spelling slots) × (slots.kind ≡ kind)) }
+        ensures err { OnErr result (¬ IsSlotPage page kind) }
+        ensures cause { IfErr result (λ error. IsBroken number error) }
+    {
+        check_page(&page, number, kind)?;
+        Ok(SlotPage { page })
     }
 
     /// The page's bytes.

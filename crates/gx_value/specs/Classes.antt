@@ -1,6 +1,6 @@
 -- The operator classes: PostgreSQL 16, 68.2, 70.2, F.9, F.18, F.20 and F.23.
 use Rattle.std.specs.Prelude.{◌≡◌, ℕ, ◌==◌, nat_le, Bool, true, false, not, ◌&&◌, ◌||◌, List, [], ◌∷◌, codes, bytes_eq, find, Option, None, Some, ok_or, Result, if◌then◌else◌}
-use Rattle.std.specs.List.{list_any}
+use Rattle.std.specs.List.{list_any, list_all}
 use Rattle.std.specs.Option.{option_map_or}
 use Rattle.gx_value.specs.declared.types.ColumnType.{ColumnType}
 use Rattle.gx_value.specs.declared.types.ColumnType.TheVariants as column
@@ -140,6 +140,12 @@ abbrev pub class_for : Method → ColumnType → Option (List ℕ) → Result Cl
 class_for method kind (Some word) = ok_or (class_named method kind word) NotFor
 class_for method kind None = ok_or (default_class method kind) NoDefault
 
+-- the class is the one that is found by its method, its name and each of its types, of which there is one
+abbrev pub is_found : Class → Bool
+is_found class =
+    list_any (λ kind. true) (line class).kinds
+    && list_all (λ kind. option_map_or (λ found. class_number found == class_number class) (class_named (line class).method kind (line class).word) false) (line class).kinds
+
 -- where the class is a default for the type, it is the one that is found
 abbrev pub is_only_default : Class → ColumnType → Bool
 is_only_default class kind =
@@ -158,6 +164,9 @@ allowed (Numranges _) n = nat_le 1 n && nat_le n 200
 -- the number may be the class's parameter; a class without one has 0
 abbrev pub allows : Class → ℕ → Bool
 allows class n = allowed (line class).parameter n
+
+abbrev pub IsAllowed : Class → ℕ → Type 0
+IsAllowed class n = allows class n ≡ true
 
 abbrev pub parameter_word : Parameter → List ℕ → Bool
 parameter_word Absent word = false

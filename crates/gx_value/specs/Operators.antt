@@ -1,6 +1,7 @@
 -- The table of operators: PostgreSQL 16, 9.2, 9.12, 9.16, 9.20, F.18, F.20 and F.23.
-use Rattle.std.specs.Prelude.{ℕ, ◌==◌, Bool, List, [], ◌∷◌, find}
-use Rattle.std.specs.List.{list_any}
+use Rattle.std.specs.Prelude.{ℕ, ◌==◌, Bool, true, ◌&&◌, List, [], ◌∷◌, find}
+use Rattle.std.specs.Cmp.Lexicographic.{pointwise}
+use Rattle.std.specs.List.{list_any, list_all}
 use Rattle.std.specs.Option.{option_map_or}
 use Rattle.gx_value.specs.declared.types.ColumnType.{ColumnType}
 use Rattle.gx_value.specs.declared.types.ColumnType.TheVariants as column
@@ -114,3 +115,7 @@ operands kind op = operands_among (lines kind) op
 -- the operator takes an operand of the type
 abbrev pub is_operand : ColumnType → Operator → OperandType → Bool
 is_operand kind op t = list_any (same_operand t) (operands kind op)
+
+-- each operator of the line has the line's operands, and there is one, so that the line counts
+abbrev pub counts : List Line → Line → Bool
+counts ls l = list_any (λ op. true) l.operators && list_all (λ op. pointwise same_operand (operands_among ls op) l.operands) l.operators

@@ -1,5 +1,6 @@
 -- The types of columns and of operands: their words, and the numbers of column types.
-use Rattle.std.specs.Prelude.{ℕ, ◌==◌, Bool, List, [], ◌∷◌, codes, bytes_eq, find, Option, None, Some, option_map, option_and_then, if◌then◌else◌}
+use Rattle.std.specs.Prelude.{ℕ, ◌==◌, Bool, false, List, [], ◌∷◌, codes, bytes_eq, find, Option, None, Some, option_map, option_and_then, if◌then◌else◌}
+use Rattle.std.specs.Option.{option_map_or}
 use Rattle.gx_value.specs.declared.types.ColumnType.{ColumnType}
 use Rattle.gx_value.specs.declared.types.ColumnType.TheVariants as column
 use Rattle.gx_value.specs.declared.types.OperandType.{OperandType}
@@ -29,6 +30,28 @@ type_number column.Int4Array = 14
 
 abbrev pub same_type : ColumnType → ColumnType → Bool
 same_type a b = type_number a == type_number b
+
+-- a number for each operand type
+abbrev pub operand_number : OperandType → ℕ
+operand_number operand.Int4 = 1
+operand_number operand.Int8 = 2
+operand_number operand.Text = 3
+operand_number operand.Bytea = 4
+operand_number operand.Date = 5
+operand_number operand.Uuid = 6
+operand_number operand.Int4Range = 7
+operand_number operand.Int8Range = 8
+operand_number operand.DateRange = 9
+operand_number operand.Inet = 10
+operand_number operand.Ltree = 11
+operand_number operand.Hstore = 12
+operand_number operand.Jsonb = 13
+operand_number operand.Int4Array = 14
+operand_number operand.TextArray = 15
+operand_number operand.Lquery = 16
+operand_number operand.LqueryArray = 17
+operand_number operand.Ltxtquery = 18
+operand_number operand.QueryInt = 19
 
 -- a word, and the type that it names
 pub record TypeLine : Type 0 where
@@ -78,6 +101,10 @@ list_words =
 -- the type that a word names among those
 abbrev pub kind_among : List TypeLine → List ℕ → Option OperandType
 kind_among lines w = option_map (λ l. l.kind) (find (λ l. bytes_eq l.word w) lines)
+
+-- the first line of a word is this one, so that the line counts
+abbrev pub counts : List TypeLine → TypeLine → Bool
+counts lines l = option_map_or (λ kind. operand_number kind == operand_number l.kind) (kind_among lines l.word) false
 
 -- the type with this word, with or without `[]` behind it
 abbrev pub operand_named : List ℕ → Bool → Option OperandType
@@ -148,28 +175,6 @@ all_types =
 -- the column type with this number
 abbrev pub type_numbered : ℕ → Option ColumnType
 type_numbered n = find (λ kind. type_number kind == n) all_types
-
--- a number for each operand type
-abbrev pub operand_number : OperandType → ℕ
-operand_number operand.Int4 = 1
-operand_number operand.Int8 = 2
-operand_number operand.Text = 3
-operand_number operand.Bytea = 4
-operand_number operand.Date = 5
-operand_number operand.Uuid = 6
-operand_number operand.Int4Range = 7
-operand_number operand.Int8Range = 8
-operand_number operand.DateRange = 9
-operand_number operand.Inet = 10
-operand_number operand.Ltree = 11
-operand_number operand.Hstore = 12
-operand_number operand.Jsonb = 13
-operand_number operand.Int4Array = 14
-operand_number operand.TextArray = 15
-operand_number operand.Lquery = 16
-operand_number operand.LqueryArray = 17
-operand_number operand.Ltxtquery = 18
-operand_number operand.QueryInt = 19
 
 abbrev pub same_operand : OperandType → OperandType → Bool
 same_operand a b = operand_number a == operand_number b

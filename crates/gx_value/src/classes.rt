@@ -1,8 +1,8 @@
 //! The operator classes.
 
-ghost use Rattle.std.specs.Prelude.{◌≡◌, ◌==◌, ◌&&◌, true, bytes_eq, option_map, None, Some, MatchResult};
+ghost use Rattle.std.specs.Prelude.{◌≡◌, ◌==◌, ◌&&◌, true, bytes_eq, option_map, None, Some, IfSome, IfOk, MatchResult};
 ghost use Rattle.std.specs.List.{list_any};
-ghost use Rattle.gx_value.specs.Classes.{Line, line, IsLine, class_number, class_numbered, method_named, same_method, takes, is_for, class_named, default_class, class_for, allowed, allows, parameter_word, default_of, parameter_for, has_operand, lacks, supports};
+ghost use Rattle.gx_value.specs.Classes.{Line, line, IsLine, class_number, class_numbered, method_named, same_method, takes, is_for, class_named, default_class, class_for, allowed, allows, IsAllowed, parameter_word, default_of, parameter_for, has_operand, lacks, supports};
 
 use crate::operators::{Operator, is_operand};
 use crate::types::{ColumnType, OperandType};
@@ -293,7 +293,8 @@ fn is_same_method(a: Method, b: Method) -> bool
 
 /// The class of the method for columns of the type: the one of this name, or without a name the default.
 pub fn class_for(method: Method, kind: ColumnType, word: Option<&str>) -> Result<Class, ClassFault>
-    ensures { result ≡ class_for method kind (option_map (λ w. w.now) word.entry) }
+    ensures found { result ≡ class_for method kind (option_map (λ w. w.now) word.entry) }
+    ensures fits { IfOk result (λ class. is_for method kind class ≡ true) }
 {
     match word {
         Some(word) => class_named(method, kind, word).ok_or(ClassFault::NotFor),
@@ -302,7 +303,8 @@ pub fn class_for(method: Method, kind: ColumnType, word: Option<&str>) -> Result
 }
 
 fn class_named(method: Method, kind: ColumnType, word: &str) -> Option<Class>
-    ensures { result ≡ class_named method kind word.now }
+    ensures found { result ≡ class_named method kind word.now }
+    ensures fits { IfSome result (λ class. is_for method kind class ≡ true) }
 {
     Class::ALL
         .iter()
@@ -311,7 +313,8 @@ fn class_named(method: Method, kind: ColumnType, word: &str) -> Option<Class>
 }
 
 fn default_class(method: Method, kind: ColumnType) -> Option<Class>
-    ensures { result ≡ default_class method kind }
+    ensures found { result ≡ default_class method kind }
+    ensures fits { IfSome result (λ class. is_for method kind class ≡ true) }
 {
     Class::ALL.iter().copied().find(|class| class.is_for(method, kind) && class.line().is_default)
 }
@@ -344,7 +347,8 @@ fn is_parameter_word(parameter: Parameter, word: &str) -> bool
 
 /// The parameter of a class where this word and number are given with it, or nothing.
 pub fn parameter_for(class: Class, given: Option<(&str, u64)>) -> Result<u16, BadParameter>
-    ensures { MatchResult result (λ n. parameter_for class (option_map (λ g. (g.0.now, g.1)) given.entry) ≡ Some n) (λ _. parameter_for class (option_map (λ g. (g.0.now, g.1)) given.entry) ≡ None) }
+    ensures found { MatchResult result (λ n. parameter_for class (option_map (λ g. (g.0.now, g.1)) given.entry) ≡ Some n) (λ _. parameter_for class (option_map (λ g. (g.0.now, g.1)) given.entry) ≡ None) }
+    ensures allowed { IfOk result (λ n. IsAllowed class n) }
 {
     let parameter = class.line().parameter;
     match given {

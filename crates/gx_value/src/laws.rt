@@ -6,8 +6,10 @@ ghost use Rattle.gx_value.specs.declared.literal.Literal.{Literal};
 ghost use Rattle.std.specs.List.{list_all};
 ghost use Rattle.gx_value.specs.declared.types.ColumnType.{ColumnType};
 ghost use Rattle.gx_value.specs.declared.classes.Class.{Class};
+ghost use Rattle.gx_value.specs.Operators as operators;
+ghost use Rattle.gx_value.specs.Types as types;
 ghost use Rattle.gx_value.specs.Types.{all_types, type_number, type_numbered, family_of};
-ghost use Rattle.gx_value.specs.Classes.{all_classes, class_number, class_numbered, line, is_only_default};
+ghost use Rattle.gx_value.specs.Classes.{all_classes, class_number, class_numbered, line, is_only_default, is_found};
 ghost use Rattle.gx_value.specs.Values.{Datum, IsValue, IsRow, AreFields};
 ghost use Rattle.gx_value.specs.Literals.{IsLiteral, Spells, AnswersLiteral};
 ghost use Rattle.gx_value.specs.Rows.{IsRowBytes, SpellsRow, printed};
@@ -64,4 +66,13 @@ pub fn tables()
     ensures classes { (class : Class) → class_numbered (class_number class) ≡ Some class }
     ensures names { (a b : Class) → (line a).word ≡ (line b).word → a ≡ b }
     ensures defaults { list_all (λ class. list_all (is_only_default class) all_types) all_classes ≡ true }
+{}
+
+/// No line of a table stands in vain: each word names the type of its line, each operator of a line takes the operands of
+/// that line, and each class is the one that is found by its method, its name and each of its types.
+pub fn lines_count()
+    ensures words { list_all (types.counts types.words) types.words ≡ true }
+    ensures lists { list_all (types.counts types.list_words) types.list_words ≡ true }
+    ensures operators { list_all (λ kind. list_all (operators.counts (operators.lines kind)) (operators.lines kind)) all_types ≡ true }
+    ensures classes { list_all is_found all_classes ≡ true }
 {}

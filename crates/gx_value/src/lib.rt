@@ -16,7 +16,7 @@ pub use classes::{
     supports,
 };
 pub use fields::{Column, Columns, Fields};
-pub use laws::{one_answer, one_row, printed_again, rows_are_valid, tables};
+pub use laws::{lines_count, one_answer, one_row, printed_again, rows_are_valid, tables};
 pub use literal::{Form, Literal};
 pub use operators::{Operator, is_operand, operands};
 pub use rows::{ROW_LIMIT, RowError, decode_row, encode_row};

@@ -1,5 +1,9 @@
-//! Tests of the grammar by its public calls.
+//! Tests of the cutter and the grammar by their public calls.
 #![tactic(auto)]
 
+#[cfg(test)]
+mod cutting;
+#[cfg(test)]
+mod grouping;
 #[cfg(test)]
 mod statements;

@@ -30,8 +30,9 @@ fn a_chain_grows(rt: HostRuntime) -> Result<(), Fail> {
         assert_eq!(rt; chain.append(&mut pages, 3, item)?, (page, slot));
         places.push((len, page, slot))?;
     }
-    let (opened, entries) = Chain::open(alloc, &mut pages, 3, 2)?;
+    let (opened, feet, entries) = Chain::open(alloc, &mut pages, 3, 2)?;
     assert_eq!(rt; (opened.first, opened.last, opened.pages), (2, 4, 3));
+    assert_eq!(rt; feet.as_slice(), [2, 3, 4].as_slice());
     assert_eq!(rt; entries.len(), places.len());
     for (entry, place) in entries.iter().zip(places.iter()) {
         assert_eq!(rt; (entry.item.len(), entry.page, entry.slot), *place);
@@ -53,7 +54,7 @@ fn items_change(rt: HostRuntime) -> Result<(), Fail> {
     assert!(rt; slots.item(2).is_some());
     assert_eq!(rt; slots.replace(2, b"other").is_ok(), true);
     put_slots(&mut pages, 2, &slots)?;
-    let (_, entries) = Chain::open(alloc, &mut pages, 3, 2)?;
+    let (_, _, entries) = Chain::open(alloc, &mut pages, 3, 2)?;
     assert_eq!(rt; entries.len(), 2);
     assert_eq!(rt;
         entries.iter().map(|entry| u64::from(entry.slot)).max(),

@@ -1,5 +1,4 @@
 use Rattle.std.proofs.Common.{◌<◌, ◌≡◌, ◌∙◌, ◌∷◌, [], ◌++◌, ℕ, List, length, sym, ap, arith}
-use Rattle.gx_chain.specs.declared.entry.Entry.{Entry}
 use Rattle.gx_chain.proofs.Entries.{entries_some, entries_none}
 use Rattle.gx_chain.proofs.reading.push_entries.Goals as goal
 use Rattle.gx_chain.proofs.reading.push_entries.Goals.{in-Some+in-Ok+in-Ok-push, in_default}

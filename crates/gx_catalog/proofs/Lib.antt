@@ -1,0 +1,10 @@
+mod Adding
+mod Changes
+mod Fronts
+mod Keys
+mod Lengths
+mod Pigeons
+mod Spelled
+mod Stored
+mod TailFacts
+mod Written

@@ -1,0 +1,4 @@
+pub mod Items
+pub mod Validity
+pub mod Tails
+pub mod Catalogs

@@ -1,0 +1,4 @@
+pub mod Heaps
+pub mod Parts
+pub mod Standing
+pub mod Places

@@ -1,0 +1,12 @@
+mod Tables
+mod Stepping
+mod Turning
+mod Literals
+mod OneTurn
+mod Lists
+mod NewRows
+mod StaysValid
+mod TurnsValid
+mod OneCost
+mod TruthLemmas
+mod OneRun

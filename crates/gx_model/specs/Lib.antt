@@ -1,0 +1,12 @@
+pub mod Database
+pub mod Truth
+pub mod Checks
+pub mod Conditions
+pub mod Values
+pub mod Classes
+pub mod Faults
+pub mod Replies
+pub mod Plans
+pub mod Steps
+pub mod Turns
+pub mod Runs

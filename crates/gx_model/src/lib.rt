@@ -1,0 +1,9 @@
+//! What the statements of a script do: to a database, in a session, in a run.
+#![tactic(auto)]
+
+mod laws;
+
+pub use laws::{
+    deleted_rows, inserted_rows, one_run, one_turn, refused_changes_nothing, rolled_back,
+    stays_valid, three_values,
+};
