@@ -4,12 +4,12 @@ use Rattle.gx_words.specs.Moments.{Moment}
 use Rattle.gx_words.specs.PageMap.{PageMap}
 use Rattle.gx_pages.specs.declared.store.Pages.{Ghosts}
 use Rattle.gx_engine.specs.Times.{Between}
-use Rattle.gx_engine.specs.Database.{Database}
-use Rattle.gx_engine.specs.Holding.{StandsFor}
-use Rattle.gx_engine.specs.Replies.{Reply}
-use Rattle.gx_engine.specs.Turns.{Session, Block, Turned, Turns, seen}
-use Rattle.gx_engine.specs.Turns.Block.{idle, begun, failed}
-use Rattle.gx_engine.specs.Runs.{Answers}
+use Rattle.gx_model.specs.Database.{Database}
+use Rattle.gx_database.specs.Standing.{StandsFor}
+use Rattle.gx_model.specs.Replies.{Reply}
+use Rattle.gx_model.specs.Turns.{Session, Block, Turned, Turns, seen}
+use Rattle.gx_model.specs.Turns.Block.{idle, begun, failed}
+use Rattle.gx_model.specs.Runs.{Answers}
 use Rattle.gx_engine.specs.declared.reply.Reply as code
 use Rattle.gx_engine.specs.declared.engine.Kind.{Kind}
 use Rattle.gx_engine.specs.declared.engine.Kind.TheVariants.{Idle, Begun, Failed}

@@ -4,9 +4,10 @@ ghost use Rattle.std.specs.Prelude.{◌≡◌, ◌≢◌, ◌⊎◌, ◌↔◌, 
 ghost use Rattle.gx_words.specs.Causes.{Rose};
 ghost use Rattle.gx_lexer.specs.Feeding.{piece_of};
 ghost use Rattle.gx_pages.specs.Pages.{HasCause};
-ghost use Rattle.gx_engine.specs.Turns.{Session, TurnCosts};
+ghost use Rattle.gx_model.specs.Turns.{Session, TurnCosts};
 ghost use Rattle.gx_engine.specs.Engines.{IsIn, Executed, Stopped, Unmade, reply_of, checkpoint_reply};
 
+use crate::execute::Execute;
 use crate::reply::Reply;
 use gx_lexer::Piece;
 use gx_pages::{PageError, Steps, Store};
@@ -52,31 +53,31 @@ impl<P: Store> Engine<P> {
         })
     }
 
-    /// Executes a piece: outside a block a statement is committed with its reply built, in a block it is worked. Where
+    /// Executes a piece in this way: outside a block a statement is committed with its reply built, in a block it is worked. Where
     /// no page is left, the reply is the line of E20. Errors: a failure of the disk, a store that holds no database,
     /// want of memory; after one the engine has ended.
-    pub fn execute<L: Ledger>(
+    pub fn execute<E: Execute, L: Ledger>(
         &mut self,
-        _piece: &Piece,
-        _steps: &mut Steps<L>,
+        piece: &Piece,
+        steps: &mut Steps<L>,
     ) -> Result<Reply, PageError>
         requires running { self.old.ended ≡ false }
         requires sound { P.spoiled self.old.store ≡ false }
 
         // The reply is the one of the session's turn, or E20 where there is no room, and the store is where it was turned.
-        ensures executed { IfOk result (λ reply. P.tells → (session : Session) (text : List ℕ) → IsIn P.Pages self.old.store self.old.kind session → piece_of text ≡ _piece.now
+        ensures executed { IfOk result (λ reply. P.tells → (session : Session) (text : List ℕ) → IsIn P.Pages self.old.store self.old.kind session → piece_of text ≡ piece.now
             → Executed P.Pages self.old.store self.new.store self.new.kind session text (reply_of reply)) }
 
         // What the errors leave, and when they come.
-        ensures stopped { result ≡ Err PageError.DiskFault → P.tells → (session : Session) (text : List ℕ) → IsIn P.Pages self.old.store self.old.kind session → piece_of text ≡ _piece.now
+        ensures stopped { result ≡ Err PageError.DiskFault → P.tells → (session : Session) (text : List ℕ) → IsIn P.Pages self.old.store self.old.kind session → piece_of text ≡ piece.now
             → Unmade P.Pages self.old.store self.new.store ⊎ Stopped P.Pages self.old.store self.new.store session text }
         ensures memory { result ≡ Err PageError.Memory → P.tells → (session : Session) → IsIn P.Pages self.old.store self.old.kind session → Unmade P.Pages self.old.store self.new.store }
         ensures cause { IfErr result (HasCause (P.faults self.old.store) (P.faults self.new.store)
             (λ at expected found. P.tells → (session : Session) → IsIn P.Pages self.old.store self.old.kind session → ⊥) (λ _. ⊥) (Unit {0})) }
 
         // How many heap pages were fetched.
-        ensures least { P.heap_fetches self.new.store + _steps.old ≤ P.heap_fetches self.old.store + _steps.new }
-        ensures most { P.tells → (session : Session) (text : List ℕ) → IsIn P.Pages self.old.store self.old.kind session → piece_of text ≡ _piece.now → (n : ℕ) → TurnCosts session text n → _steps.new ≤ _steps.old + n }
+        ensures least { P.heap_fetches self.new.store + steps.old ≤ P.heap_fetches self.old.store + steps.new }
+        ensures most { P.tells → (session : Session) (text : List ℕ) → IsIn P.Pages self.old.store self.old.kind session → piece_of text ≡ piece.now → (n : ℕ) → TurnCosts session text n → steps.new ≤ steps.old + n }
 
         // A piece without a reply, and CHECKPOINT, which is accepted outside a block alone, don't call the store.
         ensures silent { IfOk result (λ reply. reply.bytes ≡ [] → self.new.store ≡ self.old.store) }
@@ -89,8 +90,9 @@ impl<P: Store> Engine<P> {
         ensures ended { self.new.ended ≡ is_err result }
         ensures sound { OnOk result (P.spoiled self.new.store ≡ false) }
     {
-        self.ended = true;
-        Err(PageError::Memory)
+        let result = E::execute(self.alloc, &mut self.store, &mut self.kind, piece, steps);
+        self.ended = result.is_err();
+        result
     }
 
     /// Whether an earlier call of `execute` failed.

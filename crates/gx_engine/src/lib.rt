@@ -2,7 +2,9 @@
 #![tactic(auto)]
 
 mod engine;
+mod execute;
 mod reply;
 
 pub use engine::{Engine, Kind};
+pub use execute::Execute;
 pub use reply::Reply;

@@ -4,10 +4,10 @@ use Rattle.gx_words.specs.Moments.{Now}
 use Rattle.gx_engine.specs.Times.{Between}
 use Rattle.gx_words.specs.PageMap.{PageMap}
 use Rattle.gx_pages.specs.declared.store.Pages.{Ghosts}
-use Rattle.gx_engine.specs.Holding.{StandsFor}
-use Rattle.gx_engine.specs.Turns.{Session, Turned, seen}
-use Rattle.gx_engine.specs.Replies.{Reply}
-use Rattle.gx_engine.specs.Runs.{State, Done, Does, AreDone, Answers, committed_after}
+use Rattle.gx_database.specs.Standing.{StandsFor}
+use Rattle.gx_model.specs.Turns.{Session, Turned, seen}
+use Rattle.gx_model.specs.Replies.{Reply}
+use Rattle.gx_model.specs.Runs.{State, Done, Does, AreDone, Answers, committed_after}
 use Rattle.gx_engine.specs.Engines.{IsIn, HasAtMost, Executed, Stopped, Unmade}
 use Rattle.gx_run_file.specs.Moves.{OneOf}
 use Rattle.gx_engine.specs.declared.engine.Kind.{Kind}

@@ -2,7 +2,7 @@
 use Rattle.std.proofs.Common.{◌≡◌, ◌≢◌, ◌⊎◌, inl, inr, ℕ, ◌<◌, ◌≤◌, Bool, true, false, List, ◌++◌, Result, Ok, Err, refl, sym, ◌∙◌, ap, subst, arith}
 use Rattle.gx_words.specs.Causes.{Said, Rose}
 use Rattle.gx_disk.specs.declared.disk.Disk.{Ghosts}
-use Rattle.gx_engine.specs.Runs.{State}
+use Rattle.gx_model.specs.Runs.{State}
 use Rattle.gx_run_file.specs.Lines.{broken_line}
 use Rattle.gx_run_file.specs.Outcomes.{Completes}
 use Rattle.gx_run_file.specs.Statuses.{AnswersBroken, FileRun, TryRun, RefusedAsBroken, status_of, IsWithout}

@@ -10,10 +10,10 @@ use Rattle.gx_words.specs.Causes.{Said}
 use Rattle.gx_words.specs.Moments.{Moment}
 use Rattle.gx_engine.specs.Times.{Between}
 use Rattle.gx_words.specs.PageMap.{PageMap}
-use Rattle.gx_engine.specs.Database.{Database}
-use Rattle.gx_engine.specs.Holding.{StandsFor}
-use Rattle.gx_engine.specs.Turns.{TurnCosts}
-use Rattle.gx_engine.specs.Runs.{State, Done, Does, AreDone, after, committed_after, text_of, any_refused, CostsOfRun}
+use Rattle.gx_model.specs.Database.{Database}
+use Rattle.gx_database.specs.Standing.{StandsFor}
+use Rattle.gx_model.specs.Turns.{TurnCosts}
+use Rattle.gx_model.specs.Runs.{State, Done, Does, AreDone, after, committed_after, text_of, any_refused, CostsOfRun}
 use Rattle.gx_run_file.specs.Replied.{later_reply, last_reply}
 use Rattle.gx_engine.specs.Engines.{checkpoint_reply}
 use Rattle.gx_run_file.specs.Headline.{AnyMoment, AllStand, EndsSo}

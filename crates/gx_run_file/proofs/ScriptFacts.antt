@@ -7,7 +7,7 @@ use Rattle.gx_words.specs.Causes.{Said}
 use Rattle.gx_words.specs.Moments.{Moment}
 use Rattle.gx_words.specs.PageMap.{PageMap}
 use Rattle.gx_io.specs.Source.{IsFront}
-use Rattle.gx_engine.specs.Runs.{State}
+use Rattle.gx_model.specs.Runs.{State}
 use Rattle.gx_run_file.specs.Moves.{Ran}
 use Rattle.gx_lexer.specs.declared.piece.Piece.{Piece}
 use Rattle.gx_lexer.specs.Cut.{cut, statements}
@@ -40,6 +40,12 @@ pub ends : (told read left : List ℕ) (n room : ℕ) → IsFront told read n ro
 ends told read left n room f some zero d =
     let none : told ≡ [] = f.end some zero in
     (none, d ∙ (rw (none, zero) refl))
+
+-- a script that was read to its end isn't too long
+pub fits : (script fed left : List ℕ) (taken limit : ℕ) → script ≡ fed ++ left → left ≡ [] → length fed ≡ taken → taken ≤ limit → length script ≤ limit
+fits script fed left taken limit e end l low =
+    let is : script ≡ fed = e ∙ ap (λ (t : List ℕ). fed ++ t) end ∙ append-nil fed in
+    rw is (omega (arith, l, low))
 
 pub full : (script fed told read : List ℕ) (taken n room limit : ℕ) → script ≡ fed ++ told → length fed ≡ taken → limit ≤ taken → taken ≤ limit → IsFront told read n room → (n ≡ 0 → ⊥)
     → (limit < length script) × (take limit script ≡ fed)

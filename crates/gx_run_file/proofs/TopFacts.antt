@@ -11,10 +11,10 @@ use Rattle.gx_pager.specs.Left.{HasSome, MapLeft, MapSince, Follows}
 use Rattle.gx_pager.specs.Openings.{Opening}
 use Rattle.gx_run_file.proofs.PageFacts.{same_map}
 use Rattle.gx_lexer.specs.Cut.{cut, statements}
-use Rattle.gx_engine.specs.Database.{Database}
-use Rattle.gx_engine.specs.Holding.{StandsFor}
+use Rattle.gx_model.specs.Database.{Database}
+use Rattle.gx_database.specs.Standing.{StandsFor}
 use Rattle.gx_engine.specs.Engines.{checkpoint_reply}
-use Rattle.gx_engine.specs.Runs.{State, Done, after, any_refused}
+use Rattle.gx_model.specs.Runs.{State, Done, after, any_refused}
 use Rattle.gx_run_file.specs.Replied.{last_reply}
 use Rattle.gx_run_file.specs.Headline.{AnyMoment, Whole, DiskFailed, AnswerFailed, LackedMemory, EndsSo}
 use Rattle.gx_run_file.specs.Moves.{Ran, Empties, Spent}

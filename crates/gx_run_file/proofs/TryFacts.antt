@@ -4,7 +4,7 @@ use Rattle.gx_words.specs.Causes.{Said}
 use Rattle.gx_words.specs.Moments.{Moment}
 use Rattle.gx_words.specs.PageMap.{PageMap}
 use Rattle.gx_lexer.specs.Cut.{cut, statements}
-use Rattle.gx_engine.specs.Runs.{State, Done, any_refused, after}
+use Rattle.gx_model.specs.Runs.{State, Done, any_refused, after}
 use Rattle.gx_run_file.specs.Moves.{Ran}
 use Rattle.gx_run_file.specs.Scripts.{RanScript}
 use Rattle.gx_run_file.specs.Try.{Tried, TryHeadline}

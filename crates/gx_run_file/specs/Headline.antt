@@ -2,8 +2,8 @@
 -- the disk, or a committed map of a store.
 use Rattle.std.specs.Prelude.{◌≡◌, ◌⊎◌, ℕ, ◌+◌, ◌≤◌, Bool, List, [], ◌∷◌, ◌++◌, length, take, Result, Ok, Err}
 use Rattle.gx_words.specs.Moments.{Moment}
-use Rattle.gx_engine.specs.Database.{Database}
-use Rattle.gx_engine.specs.Runs.{State, Done, committed_after, text_of}
+use Rattle.gx_model.specs.Database.{Database}
+use Rattle.gx_model.specs.Runs.{State, Done, committed_after, text_of}
 use Rattle.gx_run_file.specs.declared.stop.Stop.{Stop}
 use Rattle.gx_run_file.specs.declared.stop.Stop.TheVariants.{Answer, Disk, Memory, Broken}
 

@@ -1,15 +1,8 @@
 -- What making a database leaves.
-use Rattle.std.specs.Prelude.{◌≡◌, ◌↔◌, ℕ, ◌<◌, [], ◌∷◌, ◌++◌, length}
+use Rattle.std.specs.Prelude.{◌≡◌, ◌↔◌, ℕ, ◌<◌, ◌++◌, length}
 use Rattle.gx_words.specs.Image.{Image}
-use Rattle.gx_words.specs.PageMap.{PageMap}
 use Rattle.gx_disk.specs.declared.disk.Disk.{Ghosts}
-use Rattle.gx_pages.specs.Contents.{below, given}
-use Rattle.gx_pages.specs.Databases.{header_of, catalog_page}
 use Rattle.gx_run_file.specs.Lines.{size_line}
-
--- the pages of an empty database
-abbrev pub empty_pages : PageMap
-empty_pages = below 2 (given (header_of 2 ∷ catalog_page ∷ []))
 
 -- The area Pages has so many bytes, which were answered; the disk is as it was.
 pub record AnswersSize {H : Type 0} (g : Ghosts H) (old new : H) : Type 0 where

@@ -4,9 +4,9 @@ use Rattle.gx_words.specs.Causes.{Said}
 use Rattle.gx_words.specs.Moments.{Moment}
 use Rattle.gx_engine.specs.Times.{Between}
 use Rattle.gx_words.specs.PageMap.{PageMap}
-use Rattle.gx_engine.specs.Database.{Database}
-use Rattle.gx_engine.specs.Holding.{StandsFor}
-use Rattle.gx_engine.specs.Runs.{State, Done, AreDone, after, any_refused, CostsOfRun}
+use Rattle.gx_model.specs.Database.{Database}
+use Rattle.gx_database.specs.Standing.{StandsFor}
+use Rattle.gx_model.specs.Runs.{State, Done, AreDone, after, any_refused, CostsOfRun}
 use Rattle.gx_run_file.specs.Replied.{last_reply}
 use Rattle.gx_engine.specs.Engines.{checkpoint_reply}
 use Rattle.gx_run_file.specs.Headline.{AnyMoment, EndsSo}

@@ -7,11 +7,12 @@ use Rattle.gx_disk.specs.declared.disk.Disk.{Ghosts}
 use Rattle.gx_io.specs.declared.source.Source as source
 use Rattle.gx_log.specs.Records.{HasMap, count_in}
 use Rattle.gx_pager.specs.Openings.{OpenBroken}
-use Rattle.gx_engine.specs.Database.{Database}
-use Rattle.gx_engine.specs.Holding.{StandsFor}
-use Rattle.gx_engine.specs.Runs.{start}
-use Rattle.gx_run_file.specs.Inits.{empty_pages, AnswersSize}
+use Rattle.gx_model.specs.Database.{Database, empty}
+use Rattle.gx_database.specs.Standing.{StandsFor}
+use Rattle.gx_model.specs.Runs.{start}
+use Rattle.gx_run_file.specs.Inits.{AnswersSize}
 use Rattle.gx_run_file.specs.Lines.{IsDiskKept}
+use Rattle.gx_run_file.specs.Top.{ImageStands}
 use Rattle.gx_run_file.specs.Statuses.{FileRun, TryRun, RefusedAsBroken, AnswersBroken}
 use Rattle.gx_run_file.specs.declared.script.TheConstants.{LIMIT}
 use Rattle.gx_run_file.specs.declared.words.Command.{Command}
@@ -41,16 +42,16 @@ pub record OfFile {S H : Type 0} (s : source.Ghosts S) (g : Ghosts H) (ticks tic
 
 -- `try`. The script was run on an empty database in memory, and the disk wasn't called.
 pub record OfTry {S H : Type 0} (s : source.Ghosts S) (g : Ghosts H) (ticks ticked : ℕ) (taken taking : S) (old new : H) (status : ℕ) : Type 0 where
-  pub run : s.tells → g.tells → (db : Database) → StandsFor empty_pages db → TryRun (start db 2) ticks ticked (g.said old).bytes (g.said new).bytes LIMIT (s.told taken) (s.told taking) status
-  pub complete : s.tells → g.tells → (db : Database) → StandsFor empty_pages db → ¬ Rose (s.faults taken) (s.faults taking) → NoAnswerFailed g old new → Completes status
+  pub run : s.tells → g.tells → TryRun (start empty 2) ticks ticked (g.said old).bytes (g.said new).bytes LIMIT (s.told taken) (s.told taking) status
+  pub complete : s.tells → g.tells → ¬ Rose (s.faults taken) (s.faults taking) → NoAnswerFailed g old new → Completes status
   pub disk : IsDiskKept g old new
   pub no_disk : status ≢ 3
   pub known : status ≢ 2
 
--- `init FILE`, with or without `--overwrite`. With status 0 each image has the pages of an empty database; an area that
+-- `init FILE`, with or without `--overwrite`. With status 0 each image stands for the empty database; an area that
 -- isn't empty and isn't to be overwritten stays as it was.
 pub record OfInit {H : Type 0} (g : Ghosts H) (overwrite : Bool) (old new : H) (status : ℕ) : Type 0 where
-  pub made : status ≡ 0 → g.tells → ((c : Image) → g.now_may_leave new c → HasMap c empty_pages) × ((g.said new).bytes ≡ (g.said old).bytes ++ codes "INIT\n")
+  pub made : status ≡ 0 → g.tells → ((c : Image) → g.now_may_leave new c → ImageStands c empty) × ((g.said new).bytes ≡ (g.said old).bytes ++ codes "INIT\n")
   pub kept : overwrite ≡ false → g.tells → 0 < length (g.told old).pages → (g.told new ≡ g.told old) × ((c : Image) → g.now_may_leave new c ↔ g.now_may_leave old c)
   pub kinds : (status ≡ 0) ⊎ ((status ≡ 3) ⊎ ((status ≡ 4) ⊎ (status ≡ 6)))
   pub size : status ≡ 6 → (overwrite ≡ false) × AnswersSize g old new

@@ -1,6 +1,6 @@
 -- The last reply of a run.
 use Rattle.std.specs.Prelude.{ℕ, List, [], ◌∷◌}
-use Rattle.gx_engine.specs.Runs.{Done}
+use Rattle.gx_model.specs.Runs.{Done}
 
 -- the later of two replies: the bytes of this one, or the earlier bytes where it has none
 abbrev pub later_reply : List ℕ → List ℕ → List ℕ

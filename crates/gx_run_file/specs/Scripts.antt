@@ -1,9 +1,9 @@
 -- The run of a script that is read from a source.
-use Rattle.std.specs.Prelude.{◌≡◌, ℕ, ◌<◌, Bool, List, [], ◌++◌, length, take, Result, Ok, Err}
+use Rattle.std.specs.Prelude.{◌≡◌, ℕ, ◌<◌, ◌≤◌, Bool, List, [], ◌++◌, length, take, Result, Ok, Err}
 use Rattle.gx_words.specs.Causes.{Said}
 use Rattle.gx_words.specs.Moments.{Moment}
 use Rattle.gx_words.specs.PageMap.{PageMap}
-use Rattle.gx_engine.specs.Runs.{State}
+use Rattle.gx_model.specs.Runs.{State}
 use Rattle.gx_run_file.specs.Moves.{Ran}
 use Rattle.gx_lexer.specs.Cut.{cut, statements}
 use Rattle.gx_run_file.specs.declared.stop.Stop.{Stop}
@@ -18,7 +18,7 @@ module _ {D : Type 0} (moment : D → ℕ) (since : D → ℕ → Moment PageMap
 
   -- How the run of a script ended, with so many bytes at most, and what is left of it.
   abbrev pub RanScript : ℕ → List ℕ → List ℕ → Result Bool Halt → Type 0
-  RanScript limit script left (Ok refused) = Ran moment since leaves said is_at emptied before now old new from (statements script) (Ok refused) × (left ≡ [])
+  RanScript limit script left (Ok refused) = Ran moment since leaves said is_at emptied before now old new from (statements script) (Ok refused) × (left ≡ []) × (length script ≤ limit)
   RanScript limit script left (Err (Stopped stop)) = Ran moment since leaves said is_at emptied before now old new from (statements script) (Err stop)
   RanScript limit script left (Err Source) = (taken : List ℕ) × (script ≡ taken ++ left) × RanFront taken
   RanScript limit script left (Err Full) = (limit < length script) × RanFront (take limit script)

@@ -2,7 +2,7 @@
 use Rattle.std.specs.Prelude.{◌≡◌, ◌≢◌, ◌⊎◌, ℕ, Bool, true, false, List, ◌++◌, Result, Ok, Err}
 use Rattle.gx_disk.specs.declared.disk.Disk.{Ghosts}
 use Rattle.gx_pager.specs.Openings.{OpenBroken}
-use Rattle.gx_engine.specs.Runs.{State}
+use Rattle.gx_model.specs.Runs.{State}
 use Rattle.gx_run_file.specs.Lines.{broken_line}
 use Rattle.gx_run_file.specs.Top.{ScriptHeadline}
 use Rattle.gx_run_file.specs.Try.{TryHeadline}

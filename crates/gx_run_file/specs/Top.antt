@@ -1,5 +1,5 @@
 -- The headline: what a run of pieces on a file leaves of the host, at any moment and at its end.
-use Rattle.std.specs.Prelude.{◌≡◌, ◌⊎◌, ℕ, ◌<◌, Bool, List, [], ◌++◌, length, take, Result, Ok, Err, IfOk}
+use Rattle.std.specs.Prelude.{◌≡◌, ◌⊎◌, ℕ, ◌<◌, ◌≤◌, Bool, List, [], ◌++◌, length, take, Result, Ok, Err, IfOk}
 use Rattle.gx_words.specs.Image.{Image}
 use Rattle.gx_words.specs.Moments.{Moment}
 use Rattle.gx_words.specs.PageMap.{PageMap}
@@ -9,9 +9,9 @@ use Rattle.gx_lexer.specs.Cut.{cut, statements}
 use Rattle.gx_pager.specs.Openings.{OpenBroken}
 use Rattle.gx_pages.specs.declared.error.PageError.{PageError}
 use Rattle.gx_pages.specs.declared.error.PageError.TheVariants as pages
-use Rattle.gx_engine.specs.Database.{Database}
-use Rattle.gx_engine.specs.Holding.{StandsFor}
-use Rattle.gx_engine.specs.Runs.{State, Done, AreDone, any_refused}
+use Rattle.gx_model.specs.Database.{Database}
+use Rattle.gx_database.specs.Standing.{StandsFor}
+use Rattle.gx_model.specs.Runs.{State, Done, AreDone, any_refused}
 use Rattle.gx_run_file.specs.Replied.{last_reply}
 use Rattle.gx_engine.specs.Engines.{checkpoint_reply}
 use Rattle.gx_run_file.specs.Headline.{AnyMoment, Whole, DiskFailed, AnswerFailed, LackedMemory}
@@ -57,11 +57,11 @@ pub record Headline {H : Type 0} (g : Ghosts H) (before now : ℕ) (old new : H)
   pub spent : Spent from pieces dones before now result
   pub emptied : IfOk result (λ refused. last_reply [] dones ≡ checkpoint_reply → Stands [] (g.told new).log)
 
--- The headline for a script that came from a source: every piece of it was run and answered; or a piece stopped the run;
+-- The headline for a script that came from a source: every piece of it was run and answered, and it isn't too long; or a piece stopped the run;
 -- or the source failed, and the pieces that a `;` ends in the bytes taken were run and answered; or there were more bytes
 -- than a script may have, and so were the pieces that a `;` ends in so many of them.
 abbrev pub ScriptHeadline : {H : Type 0} → Ghosts H → ℕ → ℕ → H → H → State → ℕ → List ℕ → List ℕ → Result Bool Halt → Type 0
-ScriptHeadline g before now old new from limit script left (Ok refused) = Headline g before now old new from (statements script) (Ok refused) × (left ≡ [])
+ScriptHeadline g before now old new from limit script left (Ok refused) = Headline g before now old new from (statements script) (Ok refused) × (left ≡ []) × (length script ≤ limit)
 ScriptHeadline g before now old new from limit script left (Err (Stopped stop)) = Headline g before now old new from (statements script) (Err stop)
 ScriptHeadline g before now old new from limit script left (Err Source) =
     (taken : List ℕ) × (script ≡ taken ++ left) × (refused : Bool) × Headline g before now old new from (cut taken).pieces (Ok refused)

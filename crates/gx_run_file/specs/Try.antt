@@ -1,9 +1,9 @@
 -- The headline of a run on a database in memory, which has no images.
-use Rattle.std.specs.Prelude.{◌≡◌, ℕ, ◌<◌, Bool, List, [], ◌++◌, length, take, Result, Ok, Err, IfOk}
+use Rattle.std.specs.Prelude.{◌≡◌, ℕ, ◌<◌, ◌≤◌, Bool, List, [], ◌++◌, length, take, Result, Ok, Err, IfOk}
 use Rattle.gx_words.specs.PageMap.{PageMap}
 use Rattle.gx_lexer.specs.Cut.{cut, statements}
-use Rattle.gx_engine.specs.Holding.{StandsFor}
-use Rattle.gx_engine.specs.Runs.{State, Done, AreDone, any_refused}
+use Rattle.gx_database.specs.Standing.{StandsFor}
+use Rattle.gx_model.specs.Runs.{State, Done, AreDone, any_refused}
 use Rattle.gx_run_file.specs.Headline.{EndsSo}
 use Rattle.gx_run_file.specs.Moves.{Spent}
 use Rattle.gx_run_file.specs.declared.halt.Halt.{Halt}
@@ -23,7 +23,7 @@ pub record Tried (from : State) (ticks ticked : ℕ) (before now : List ℕ) (pi
   pub spent : Spent from pieces dones ticks ticked result
 
 abbrev pub TryHeadline : State → ℕ → ℕ → List ℕ → List ℕ → ℕ → List ℕ → List ℕ → Result Bool Halt → Type 0
-TryHeadline from ticks ticked before now limit script left (Ok refused) = Tried from ticks ticked before now (statements script) (Ok refused) × (left ≡ [])
+TryHeadline from ticks ticked before now limit script left (Ok refused) = Tried from ticks ticked before now (statements script) (Ok refused) × (left ≡ []) × (length script ≤ limit)
 TryHeadline from ticks ticked before now limit script left (Err (Stopped stop)) = Tried from ticks ticked before now (statements script) (Err stop)
 TryHeadline from ticks ticked before now limit script left (Err Source) =
     (taken : List ℕ) × (script ≡ taken ++ left) × (refused : Bool) × Tried from ticks ticked before now (cut taken).pieces (Ok refused)

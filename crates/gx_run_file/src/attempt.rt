@@ -2,10 +2,10 @@
 
 ghost use Rattle.std.specs.Prelude.{◌≡◌, ◌≢◌, ℕ, ◌≤◌, List, Err};
 ghost use Rattle.gx_words.specs.Causes.{Rose};
-ghost use Rattle.gx_engine.specs.Database.{Database};
-ghost use Rattle.gx_engine.specs.Holding.{StandsFor};
-ghost use Rattle.gx_engine.specs.Runs.{start};
-ghost use Rattle.gx_run_file.specs.Inits.{empty_pages};
+ghost use Rattle.gx_model.specs.Database.{Database};
+ghost use Rattle.gx_database.specs.Standing.{StandsFor};
+ghost use Rattle.gx_model.specs.Runs.{start};
+ghost use Rattle.gx_pages.specs.Databases.{empty_pages};
 ghost use Rattle.gx_run_file.specs.Lines.{IsDiskKept};
 ghost use Rattle.gx_run_file.specs.Try.{TryHeadline};
 
@@ -14,14 +14,14 @@ use crate::memory::MemoryDesk;
 use crate::script::{LIMIT, run_script};
 use crate::stop::Stop;
 use gx_disk::Host;
-use gx_engine::Engine;
+use gx_engine::{Engine, Execute};
 use gx_io::Source;
 use gx_pages::{MemoryPages, Steps};
 use std::alloc::Global;
 use std::sync::ledger::Ledger;
 
 /// Runs the script of a source on a fresh database in memory.
-pub fn run_in_memory<S: Source, H: Host, L: Ledger>(
+pub fn run_in_memory<E: Execute, S: Source, H: Host, L: Ledger>(
     alloc: Global,
     source: &mut S,
     host: &mut H,
@@ -44,7 +44,7 @@ pub fn run_in_memory<S: Source, H: Host, L: Ledger>(
         Err(_) => return Err(Halt::Stopped(Stop::Memory)),
     };
     let mut desk = MemoryDesk { engine, host };
-    let result = run_script(alloc, source, &mut desk, steps);
+    let result = run_script::<E, _, _, _>(alloc, source, &mut desk, steps);
     let MemoryDesk {
         engine: _engine,
         host: _host,

@@ -6,14 +6,14 @@ ghost use Rattle.gx_words.specs.Moments.{Moment};
 ghost use Rattle.gx_words.specs.PageMap.{PageMap};
 ghost use Rattle.gx_lexer.specs.Feeding.{piece_of};
 ghost use Rattle.gx_engine.specs.Times.{Between};
-ghost use Rattle.gx_engine.specs.Holding.{StandsFor};
-ghost use Rattle.gx_engine.specs.Turns.{TurnCosts};
-ghost use Rattle.gx_engine.specs.Runs.{State, Done, Does, AreDone, committed_after};
+ghost use Rattle.gx_database.specs.Standing.{StandsFor};
+ghost use Rattle.gx_model.specs.Turns.{TurnCosts};
+ghost use Rattle.gx_model.specs.Runs.{State, Done, Does, AreDone, committed_after};
 ghost use Rattle.gx_engine.specs.Engines.{reply_of, checkpoint_reply};
 ghost use Rattle.gx_run_file.specs.Moves.{OneOf, While};
 
 use crate::stop::Stop;
-use gx_engine::Reply;
+use gx_engine::{Execute, Reply};
 use gx_io::Failed;
 use gx_lexer::Piece;
 use gx_pages::Steps;
@@ -53,8 +53,12 @@ pub trait Desk {
 
     ghost may_have_left_since: { Self → ℕ → Moment PageMap → Type 0 };
 
-    /// Executes a piece.
-    fn execute<L: Ledger>(&mut self, piece: &Piece, steps: &mut Steps<L>) -> Result<Reply, Stop>
+    /// Executes a piece, in this way.
+    fn execute<E: Execute, L: Ledger>(
+        &mut self,
+        piece: &Piece,
+        steps: &mut Steps<L>,
+    ) -> Result<Reply, Stop>
         requires { ready self.old }
         ensures done { IfOk result (λ reply. tells → (from : State) (text : List ℕ) → is_at self.old from → piece_of text ≡ piece.now
             → (one : Done) × Does from text one × (reply_of reply ≡ one.reply) × is_at self.new one.after

@@ -4,7 +4,7 @@ ghost use Rattle.std.specs.Prelude.{◌≡◌, false, []};
 
 use crate::desk::Desk;
 use crate::stop::Stop;
-use gx_engine::{Engine, Reply};
+use gx_engine::{Engine, Execute, Reply};
 use gx_io::Failed;
 use gx_lexer::Piece;
 use gx_pager::Keeper;
@@ -64,8 +64,12 @@ impl<P: Keeper> Desk for FileDesk<P> {
 
     ghost left = { λ tells d s at. at.0.left };
 
-    fn execute<L: Ledger>(&mut self, piece: &Piece, steps: &mut Steps<L>) -> Result<Reply, Stop> {
-        match self.engine.execute(piece, steps) {
+    fn execute<E: Execute, L: Ledger>(
+        &mut self,
+        piece: &Piece,
+        steps: &mut Steps<L>,
+    ) -> Result<Reply, Stop> {
+        match self.engine.execute::<E, _>(piece, steps) {
             Ok(reply) => Ok(reply),
             Err(PageError::DiskFault) => Err(Stop::Disk),
             Err(PageError::Memory) => Err(Stop::Memory),

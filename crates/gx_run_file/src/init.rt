@@ -4,8 +4,9 @@ ghost use Rattle.std.specs.Prelude.{◌≡◌, ◌≢◌, ◌⊎◌, ◌↔◌, 
 ghost use Rattle.gx_words.specs.Causes.{Rose};
 ghost use Rattle.gx_words.specs.Image.{Image};
 ghost use Rattle.gx_log.specs.Records.{HasMap};
+ghost use Rattle.gx_pages.specs.Databases.{empty_pages};
 ghost use Rattle.gx_run_file.specs.Lines.{IsDiskKept, size_line};
-ghost use Rattle.gx_run_file.specs.Inits.{empty_pages, AnswersSize};
+ghost use Rattle.gx_run_file.specs.Inits.{AnswersSize};
 
 use crate::fatal::answer_size;
 use gx_disk::{Area, Host};

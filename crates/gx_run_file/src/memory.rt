@@ -5,7 +5,7 @@ ghost use Rattle.std.specs.Prelude.{◌≡◌, ℕ, ◌↔◌, false};
 use crate::desk::Desk;
 use crate::stop::Stop;
 use gx_disk::Host;
-use gx_engine::{Engine, Reply};
+use gx_engine::{Engine, Execute, Reply};
 use gx_io::Failed;
 use gx_lexer::Piece;
 use gx_pages::{MemoryPages, PageError, Pages, Steps};
@@ -56,8 +56,12 @@ impl<'h, H: Host> Desk for MemoryDesk<'h, H> {
 
     ghost left = { λ tells d s at map l. absurd l };
 
-    fn execute<L: Ledger>(&mut self, piece: &Piece, steps: &mut Steps<L>) -> Result<Reply, Stop> {
-        match self.engine.execute(piece, steps) {
+    fn execute<E: Execute, L: Ledger>(
+        &mut self,
+        piece: &Piece,
+        steps: &mut Steps<L>,
+    ) -> Result<Reply, Stop> {
+        match self.engine.execute::<E, _>(piece, steps) {
             Ok(reply) => Ok(reply),
             Err(PageError::DiskFault) => unreachable!(),
             Err(PageError::Memory) => Err(Stop::Memory),

@@ -5,22 +5,22 @@ ghost use Rattle.gx_words.specs.Causes.{Rose, FailsWith};
 ghost use Rattle.gx_words.specs.PageMap.{PageMap};
 ghost use Rattle.gx_lexer.specs.Feeding.{piece_of};
 ghost use Rattle.gx_engine.specs.Times.{Between};
-ghost use Rattle.gx_engine.specs.Holding.{StandsFor};
-ghost use Rattle.gx_engine.specs.Turns.{TurnCosts};
-ghost use Rattle.gx_engine.specs.Runs.{State, Done, Does, AreDone, committed_after};
+ghost use Rattle.gx_database.specs.Standing.{StandsFor};
+ghost use Rattle.gx_model.specs.Turns.{TurnCosts};
+ghost use Rattle.gx_model.specs.Runs.{State, Done, Does, AreDone, committed_after};
 ghost use Rattle.gx_engine.specs.Engines.{reply_of, checkpoint_reply};
 ghost use Rattle.gx_run_file.specs.Moves.{OneOf, Ran};
 
 use crate::desk::Desk;
 use crate::stop::Stop;
-use gx_engine::Reply;
+use gx_engine::{Execute, Reply};
 use gx_io::Failed;
 use gx_lexer::Piece;
 use gx_pages::Steps;
 use std::sync::ledger::Ledger;
 
 /// Executes the pieces, and answers each reply by one call before the next piece. Tells whether one was refused.
-pub fn run_pieces<D: Desk, L: Ledger>(
+pub fn run_pieces<E: Execute, D: Desk, L: Ledger>(
     desk: &mut D,
     pieces: &[Piece],
     steps: &mut Steps<L>,
@@ -38,7 +38,7 @@ pub fn run_pieces<D: Desk, L: Ledger>(
     let mut refused = false;
     let mut rest = pieces;
     while let Some((piece, after)) = rest.split_first() {
-        let one = run_piece(desk, piece, steps)?;
+        let one = run_piece::<E, _, _>(desk, piece, steps)?;
         refused = either(refused, one);
         rest = after;
     }
@@ -46,7 +46,7 @@ pub fn run_pieces<D: Desk, L: Ledger>(
 }
 
 // Executes a piece, and answers its reply where it has one. Tells whether it was refused.
-fn run_piece<D: Desk, L: Ledger>(
+fn run_piece<E: Execute, D: Desk, L: Ledger>(
     desk: &mut D,
     piece: &Piece,
     steps: &mut Steps<L>,
@@ -65,7 +65,7 @@ fn run_piece<D: Desk, L: Ledger>(
         Ok(()) => (),
         Err(_) => return Err(Stop::Disk),
     }
-    let reply = match execute_piece(desk, piece, steps) {
+    let reply = match execute_piece::<E, _, _>(desk, piece, steps) {
         Ok(reply) => reply,
         Err(Stop::Disk) => return Err(Stop::Disk),
         Err(Stop::Memory) => return Err(Stop::Memory),
@@ -95,7 +95,7 @@ fn run_piece<D: Desk, L: Ledger>(
 }
 
 // Executes a piece, and makes a checkpoint where it is CHECKPOINT and was accepted.
-fn execute_piece<D: Desk, L: Ledger>(
+fn execute_piece<E: Execute, D: Desk, L: Ledger>(
     desk: &mut D,
     piece: &Piece,
     steps: &mut Steps<L>,
@@ -122,7 +122,7 @@ fn execute_piece<D: Desk, L: Ledger>(
     ensures faults { D.disk_faults desk.old ≤ D.disk_faults desk.new }
     ensures rose { result ≡ Err Stop.Disk → D.on_disk × Rose (D.disk_faults desk.old) (D.disk_faults desk.new) }
 {
-    let reply = match desk.execute(piece, steps) {
+    let reply = match desk.execute::<E, _>(piece, steps) {
         Ok(reply) => reply,
         Err(stop) => return Err(stop),
     };

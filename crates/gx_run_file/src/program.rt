@@ -16,6 +16,7 @@ use crate::stop::Stop;
 use crate::top::run_on_file;
 use crate::words::{Command, read_words};
 use gx_disk::Host;
+use gx_engine::Execute;
 use gx_io::Source;
 use gx_pages::Steps;
 use std::alloc::Global;
@@ -36,7 +37,7 @@ use std::sync::ledger::Ledger;
 /// | 7 | the script has more than 1,073,741,824 bytes |
 ///
 /// After a failure of the source, and past the greatest length, the statements that a `;` ends have been run.
-pub fn run<S: Source, H: Host, L: Ledger>(
+pub fn run<E: Execute, S: Source, H: Host, L: Ledger>(
     alloc: Global,
     words: &[String],
     source: &mut S,
@@ -55,13 +56,13 @@ pub fn run<S: Source, H: Host, L: Ledger>(
     };
     match command {
         Command::Init { overwrite } => init(host, overwrite),
-        Command::Run => run_file(alloc, source, host, steps),
-        Command::Try => run_try(alloc, source, host, steps),
+        Command::Run => run_file::<E, _, _, _>(alloc, source, host, steps),
+        Command::Try => run_try::<E, _, _, _>(alloc, source, host, steps),
     }
 }
 
 // Runs the script on the database of the disk.
-fn run_file<S: Source, H: Host, L: Ledger>(
+fn run_file<E: Execute, S: Source, H: Host, L: Ledger>(
     alloc: Global,
     source: &mut S,
     host: &mut H,
@@ -71,12 +72,12 @@ fn run_file<S: Source, H: Host, L: Ledger>(
     ensures disk_rose { result ≡ 3 → Rose (H.faults host.old) (H.faults host.new) }
     ensures rose { result ≡ 4 → Rose (S.faults source.old) (S.faults source.new) ⊎ Rose (H.said host.old).faults (H.said host.new).faults }
 {
-    let end = run_on_file(alloc, source, host, steps);
+    let end = run_on_file::<E, _, _, _>(alloc, source, host, steps);
     finish(host, end)
 }
 
 // Runs the script on an empty database in memory.
-fn run_try<S: Source, H: Host, L: Ledger>(
+fn run_try<E: Execute, S: Source, H: Host, L: Ledger>(
     alloc: Global,
     source: &mut S,
     host: &mut H,
@@ -85,7 +86,7 @@ fn run_try<S: Source, H: Host, L: Ledger>(
     ensures outcome { OfTry S.Source H.Disk steps.old steps.new source.old source.new host.old host.new result }
     ensures rose { result ≡ 4 → Rose (S.faults source.old) (S.faults source.new) ⊎ Rose (H.said host.old).faults (H.said host.new).faults }
 {
-    let end = run_in_memory(alloc, source, host, steps);
+    let end = run_in_memory::<E, _, _, _>(alloc, source, host, steps);
     finish(host, end)
 }
 

@@ -4,7 +4,7 @@ ghost use Rattle.std.specs.Prelude.{◌≡◌, ◌≢◌, ℕ, ◌≤◌, false,
 ghost use Rattle.gx_words.specs.Causes.{Rose};
 ghost use Rattle.gx_lexer.specs.Cut.{cut};
 ghost use Rattle.gx_lexer.specs.Feeding.{Fed};
-ghost use Rattle.gx_engine.specs.Runs.{State};
+ghost use Rattle.gx_model.specs.Runs.{State};
 ghost use Rattle.gx_run_file.specs.Scripts.{RanScript, RanMore};
 ghost use Rattle.gx_run_file.specs.Moves.{Ran};
 
@@ -12,6 +12,7 @@ use crate::desk::Desk;
 use crate::halt::Halt;
 use crate::pieces::{either, run_pieces};
 use crate::stop::Stop;
+use gx_engine::Execute;
 use gx_io::{Failed, Source};
 use gx_lexer::{Cutter, Pieces};
 use gx_pages::Steps;
@@ -24,7 +25,7 @@ pub const LIMIT: usize = 1_073_741_824;
 const CHUNK: usize = 16_384;
 
 /// Runs the script of a source: the pieces that have ended before more is read.
-pub fn run_script<S: Source, D: Desk, L: Ledger>(
+pub fn run_script<E: Execute, S: Source, D: Desk, L: Ledger>(
     alloc: Global,
     source: &mut S,
     desk: &mut D,
@@ -48,13 +49,13 @@ pub fn run_script<S: Source, D: Desk, L: Ledger>(
         let room = CHUNK.min(LIMIT - taken);
         match source.read(&mut buffer[..room]) {
             Ok(0) => {
-                return match run_rest(alloc, cutter, desk, steps) {
+                return match run_rest::<E, _, _>(alloc, cutter, desk, steps) {
                     Ok(one) => Ok(either(refused, one)),
                     Err(stop) => Err(Halt::Stopped(stop)),
                 };
             }
             Ok(n) => {
-                let one = match run_part(alloc, &mut cutter, &buffer[..n], desk, steps) {
+                let one = match run_part::<E, _, _>(alloc, &mut cutter, &buffer[..n], desk, steps) {
                     Ok(one) => one,
                     Err(stop) => return Err(Halt::Stopped(stop)),
                 };
@@ -66,7 +67,7 @@ pub fn run_script<S: Source, D: Desk, L: Ledger>(
     }
     let mut more = [0u8; 1];
     match source.read(&mut more) {
-        Ok(0) => match run_rest(alloc, cutter, desk, steps) {
+        Ok(0) => match run_rest::<E, _, _>(alloc, cutter, desk, steps) {
             Ok(one) => Ok(either(refused, one)),
             Err(stop) => Err(Halt::Stopped(stop)),
         },
@@ -76,7 +77,7 @@ pub fn run_script<S: Source, D: Desk, L: Ledger>(
 }
 
 // Feeds some bytes of a script, and runs the pieces that end in them.
-fn run_part<D: Desk, L: Ledger>(
+fn run_part<E: Execute, D: Desk, L: Ledger>(
     alloc: Global,
     cutter: &mut Cutter,
     bytes: &[u8],
@@ -101,11 +102,11 @@ fn run_part<D: Desk, L: Ledger>(
         Ok(()) => (),
         Err(_) => return Err(Stop::Memory),
     }
-    run_pieces(desk, pieces.as_slice(), steps)
+    run_pieces::<E, _, _>(desk, pieces.as_slice(), steps)
 }
 
 // Runs the last piece.
-fn run_rest<D: Desk, L: Ledger>(
+fn run_rest<E: Execute, D: Desk, L: Ledger>(
     alloc: Global,
     cutter: Cutter,
     desk: &mut D,
@@ -126,5 +127,5 @@ fn run_rest<D: Desk, L: Ledger>(
         Ok(()) => (),
         Err(_) => return Err(Stop::Memory),
     }
-    run_pieces(desk, pieces.as_slice(), steps)
+    run_pieces::<E, _, _>(desk, pieces.as_slice(), steps)
 }

@@ -5,9 +5,9 @@ ghost use Rattle.gx_words.specs.Causes.{Rose};
 ghost use Rattle.gx_words.specs.PageMap.{PageMap};
 ghost use Rattle.gx_log.specs.Records.{HasMap, count_in};
 ghost use Rattle.gx_pager.specs.Openings.{OpenBroken};
-ghost use Rattle.gx_engine.specs.Database.{Database};
-ghost use Rattle.gx_engine.specs.Holding.{StandsFor};
-ghost use Rattle.gx_engine.specs.Runs.{start};
+ghost use Rattle.gx_model.specs.Database.{Database};
+ghost use Rattle.gx_database.specs.Standing.{StandsFor};
+ghost use Rattle.gx_model.specs.Runs.{start};
 ghost use Rattle.gx_run_file.specs.Top.{ScriptHeadline, OpensBroken, stopped_by};
 
 use crate::file::FileDesk;
@@ -15,7 +15,7 @@ use crate::halt::Halt;
 use crate::script::{LIMIT, run_script};
 use crate::stop::Stop;
 use gx_disk::Host;
-use gx_engine::Engine;
+use gx_engine::{Engine, Execute};
 use gx_io::Source;
 use gx_pager::{Pager, read_file};
 use gx_pages::{PageError, Steps};
@@ -23,7 +23,7 @@ use std::alloc::Global;
 use std::sync::ledger::Ledger;
 
 /// Runs the script of a source on the file of a host.
-pub fn run_on_file<S: Source, H: Host, L: Ledger>(
+pub fn run_on_file<E: Execute, S: Source, H: Host, L: Ledger>(
     alloc: Global,
     source: &mut S,
     host: &mut H,
@@ -52,7 +52,7 @@ pub fn run_on_file<S: Source, H: Host, L: Ledger>(
         }
     };
     let mut desk = FileDesk { engine };
-    let result = run_script(alloc, source, &mut desk, steps);
+    let result = run_script::<E, _, _, _>(alloc, source, &mut desk, steps);
     let store = desk.into_store();
     let _host = store.close();
     result

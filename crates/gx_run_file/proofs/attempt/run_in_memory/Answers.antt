@@ -2,9 +2,9 @@ use Rattle.std.proofs.Common.{sym, ◌∙◌, subst, arith}
 use Rattle.gx_words.specs.PageMap.{PageMap}
 use Rattle.gx_pages.specs.Memories.{IsFresh}
 use Rattle.gx_pages.specs.declared.memory.MemoryPages.{MemoryPages}
-use Rattle.gx_engine.specs.Holding.{StandsFor}
-use Rattle.gx_engine.specs.Runs.{State, start}
-use Rattle.gx_run_file.specs.Inits.{empty_pages}
+use Rattle.gx_database.specs.Standing.{StandsFor}
+use Rattle.gx_model.specs.Runs.{State, start}
+use Rattle.gx_pages.specs.Databases.{empty_pages}
 use Rattle.gx_run_file.specs.Try.{TryHeadline}
 use Rattle.gx_run_file.specs.declared.memory.MemoryDesk.{MemoryDesk}
 use Rattle.gx_run_file.specs.declared.script.TheConstants.{LIMIT}

@@ -1,5 +1,5 @@
 use Rattle.std.proofs.Common.{◌≡◌, ℕ, Bool, List, [], ◌∷◌, ◌++◌, take, Ok, Err, is_some, sym, ◌∙◌, ap, subst}
-use Rattle.gx_engine.specs.Replies.{Reply}
+use Rattle.gx_model.specs.Replies.{Reply}
 use Rattle.gx_run_file.specs.declared.stop.Stop.{Stop}
 use Rattle.gx_run_file.specs.declared.stop.Stop.TheVariants.{Answer, Disk, Memory}
 use Rattle.gx_run_file.proofs.RunFacts as facts

@@ -1,7 +1,7 @@
 use Rattle.std.proofs.Common.{◌≡◌, ℕ, ◌≤◌, List, ◌++◌, length, map, Ok}
 use Rattle.gx_lexer.specs.declared.piece.Piece.{Piece}
 use Rattle.gx_lexer.specs.Feeding.{piece_of}
-use Rattle.gx_engine.specs.Runs.{State}
+use Rattle.gx_model.specs.Runs.{State}
 use Rattle.gx_run_file.specs.Moves.{Ran}
 use Rattle.gx_run_file.proofs.pieces.run_pieces.Given as goal
 

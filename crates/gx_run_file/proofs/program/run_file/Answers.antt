@@ -1,7 +1,7 @@
 use Rattle.std.proofs.Common.{ℕ, refl, sym, subst}
 use Rattle.gx_words.specs.Causes.{Rose}
 use Rattle.gx_log.specs.Records.{count_in}
-use Rattle.gx_engine.specs.Runs.{start}
+use Rattle.gx_model.specs.Runs.{start}
 use Rattle.gx_run_file.specs.declared.script.TheConstants.{LIMIT}
 use Rattle.gx_run_file.proofs.ProgramFacts as facts
 use Rattle.gx_run_file.proofs.program.run_file.Goals as goal

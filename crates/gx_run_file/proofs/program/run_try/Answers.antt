@@ -1,6 +1,8 @@
 use Rattle.std.proofs.Common.{refl, sym, ◌∙◌, subst}
 use Rattle.gx_words.specs.Causes.{Rose}
-use Rattle.gx_engine.specs.Runs.{start}
+use Rattle.gx_database.proofs.Empty.{empty_stands}
+use Rattle.gx_model.specs.Database.{empty}
+use Rattle.gx_model.specs.Runs.{start}
 use Rattle.gx_run_file.specs.declared.script.TheConstants.{LIMIT}
 use Rattle.gx_run_file.proofs.ProgramFacts as facts
 use Rattle.gx_run_file.proofs.program.run_try.Goals as goal
@@ -19,12 +21,12 @@ returns-clause-outcome g c =
     let taking = c.run_in_memory-end.new.source in
     let Spoken : g.row.H.Denot → Type 0 = λ h. Rose (disk.said old).faults (disk.said h).faults in
     record {
-      run = λ read tells db stands.
-          facts.try_run disk mid new (start db 2) c.args.steps.now c.run_in_memory-end.new.steps (disk.said old).bytes LIMIT (source.told c.args.source.now) (source.told taking) end status done.same
-          (ran.headline read tells (source.told c.args.source.now) refl db stands);
-      complete = λ read tells db stands s a.
-          let h = ran.headline read tells (source.told c.args.source.now) refl db stands in
-          let w = facts.try_without (start db 2) c.args.steps.now c.run_in_memory-end.new.steps (disk.said old).bytes (disk.said mid).bytes LIMIT (source.told c.args.source.now) (source.told taking) end h in
+      run = λ read tells.
+          facts.try_run disk mid new (start empty 2) c.args.steps.now c.run_in_memory-end.new.steps (disk.said old).bytes LIMIT (source.told c.args.source.now) (source.told taking) end status done.same
+          (ran.headline read tells (source.told c.args.source.now) refl empty empty_stands);
+      complete = λ read tells s a.
+          let h = ran.headline read tells (source.told c.args.source.now) refl empty empty_stands in
+          let w = facts.try_without (start empty 2) c.args.steps.now c.run_in_memory-end.new.steps (disk.said old).bytes (disk.said mid).bytes LIMIT (source.told c.args.source.now) (source.told taking) end h in
           facts.completes end status (done.same w).0 w ran.no_disk (λ e. a (subst Spoken (sym (done.same w).1) (ran.answer_rose e))) (λ e. s (ran.source_rose e));
       disk = record {
         told = done.disk.told ∙ ran.disk.told;

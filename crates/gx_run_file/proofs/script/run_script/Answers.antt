@@ -39,6 +39,7 @@ returns-in-Ok-run_rest-clause-headline g c = λ told tells script is from at.
       scripts.rest_ran d.moment d.may_have_left_since d.may_leave d.said d.is_at d.emptied c.args.desk.now c.loop-taken.desk c.run_rest.new.desk from i.0 c.loop-taken.refused first
           script _ c.in-Ok-run_rest.one c.either.result e none.0 c.either.ensures (c.in-Ok-run_rest.ensures.headline tells _ i.0 first.at.1 i.1),
       none.1,
+      scripts.fits script i.0 _ c.loop-taken.taken LIMIT e none.0 i.3 c.loop-taken.invariant.within,
     )
 
 pub returns-in-Err-run_rest-clause-headline : goal.returns-in-Err-run_rest-clause-headline
@@ -102,6 +103,7 @@ returns-in-Ok-run_rest-2-clause-headline g c = λ told tells script is from at.
       scripts.rest_ran d.moment d.may_have_left_since d.may_leave d.said d.is_at d.emptied c.args.desk.now c.loop-taken.desk c.run_rest-in-Ok-eq0-read.new.desk from i.0 c.loop-taken.refused first
           script _ c.in-Ok-run_rest-2.one c.either-in-Ok-run_rest-2.result e none.0 c.either-in-Ok-run_rest-2.ensures (c.in-Ok-run_rest-2.ensures.headline tells _ i.0 first.at.1 i.1),
       none.1,
+      scripts.fits script i.0 _ c.loop-taken.taken LIMIT e none.0 i.3 c.loop-taken.invariant.within,
     )
 
 pub returns-in-Err-run_rest-2-clause-headline : goal.returns-in-Err-run_rest-2-clause-headline

@@ -1,7 +1,7 @@
 use Rattle.std.proofs.Common.{◌≡◌, ℕ, ◌-◌, ◌≤◌, false, List, ◌++◌, length, Ok}
 use Rattle.gx_lexer.specs.Cut.{cut}
 use Rattle.gx_lexer.specs.Feeding.{Fed}
-use Rattle.gx_engine.specs.Runs.{State}
+use Rattle.gx_model.specs.Runs.{State}
 use Rattle.gx_run_file.specs.Moves.{Ran}
 use Rattle.gx_run_file.specs.declared.script.TheConstants.{LIMIT}
 use Rattle.gx_run_file.proofs.script.run_script.Given as goal

@@ -10,8 +10,8 @@ use Rattle.gx_pager.specs.Memory.{committed_map, now_map}
 use Rattle.gx_pager.specs.Openings.{Opening}
 use Rattle.gx_pager.specs.declared.pager.Pager.{Pager}
 use Rattle.gx_run_file.proofs.PageFacts.{same_map}
-use Rattle.gx_engine.specs.Holding.{StandsFor}
-use Rattle.gx_engine.specs.Runs.{State, start}
+use Rattle.gx_database.specs.Standing.{StandsFor}
+use Rattle.gx_model.specs.Runs.{State, start}
 use Rattle.gx_pages.specs.declared.error.PageError.{PageError}
 use Rattle.gx_run_file.specs.Top.{Headline, ScriptHeadline}
 use Rattle.gx_run_file.specs.declared.stop.Stop.{Stop}
