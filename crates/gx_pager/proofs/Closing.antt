@@ -1,8 +1,7 @@
 -- Pages are written in place, and then the log is emptied: each image keeps the committed map.
-use Rattle.std.proofs.Common.{◌≡◌, inl, inr, ⊎_elim, ℕ, ◌+◌, ◌*◌, ◌<◌, ◌≤◌, ◌^◌, ◌==◌, nat_lt, nat_le, Bool, true, false, cond, List, [], length, Option, Some, None, IsSome, is_some, refl, sym, ◌∙◌, ap, subst, arith}
+use Rattle.std.proofs.Common.{◌≡◌, inl, inr, ⊎_elim, ℕ, ◌+◌, ◌*◌, ◌<◌, ◌≤◌, ◌^◌, ◌==◌, nat_lt, Bool, true, false, cond, List, [], length, Option, Some, None, is_some, refl, sym, ◌∙◌, ap, subst, arith}
 use Rattle.std.proofs.lemmas.Bool.{cases_lt}
 use Rattle.std.proofs.lemmas.Bool.Decides.{nat_tests}
-use Rattle.std.proofs.lemmas.Grind.{common_steps}
 use Rattle.gx_words.specs.Image.{Image}
 use Rattle.gx_words.specs.PageMap.{PageMap}
 use Rattle.gx_disk.specs.declared.disk.Disk.{Ghosts}
@@ -12,7 +11,7 @@ use Rattle.gx_pages.specs.Frees.{HasCount}
 use Rattle.gx_pages.specs.Pages as pages
 use Rattle.gx_pager.specs.Known.{IsSound}
 use Rattle.gx_pager.specs.Layers.{over, pieces, map_over, committed_in}
-use Rattle.gx_pager.specs.Left.{HasSome, count_named, some_map, map_of_pages, committed_zero}
+use Rattle.gx_pager.specs.Left.{HasSome, some_map, map_of_pages, committed_zero}
 use Rattle.gx_pager.specs.Maps.{cut}
 use Rattle.gx_pager.specs.Placed.{IsFilled, Placed, IsPlaced, IsReady}
 use Rattle.gx_pager.proofs.Adding.{has_pages}

@@ -1,7 +1,6 @@
 -- What a checkpoint leaves of maps and layers.
-use Rattle.std.proofs.Common.{◌≡◌, inl, inr, ⊎_elim, ℕ, ◌<◌, ◌≤◌, ◌^◌, List, [], Option, Some, None, is_some, true, refl, sym, ◌∙◌, ap, subst, arith}
-use Rattle.std.specs.declared.alloc.Global.{Global}
-use Rattle.std.specs.BTreeMap.{BTreeMap, get}
+use Rattle.std.proofs.Common.{◌≡◌, inl, inr, ⊎_elim, ℕ, ◌<◌, ◌≤◌, ◌^◌, List, [], Option, Some, None, refl, sym, ◌∙◌, ap, subst}
+use Rattle.std.specs.BTreeMap.{get}
 use Rattle.std.specs.Ordering.{nat_cmp}
 use Rattle.gx_words.proofs.Runs.{through_weaker}
 use Rattle.gx_words.specs.Image.{Image}
@@ -9,13 +8,13 @@ use Rattle.gx_words.specs.Moments.{Now, Elapses, Goes}
 use Rattle.gx_words.specs.PageMap.{PageMap}
 use Rattle.gx_disk.specs.declared.disk.Disk.{Ghosts}
 use Rattle.gx_log.specs.Disks.{Leaves, IsAtRest}
-use Rattle.gx_log.specs.Records.{Stands, HasMap, page_in, piece}
+use Rattle.gx_log.specs.Records.{HasMap, page_in, piece}
 use Rattle.gx_pages.specs.Frees.{HasCount}
 use Rattle.gx_pager.specs.Known.{IsSound}
 use Rattle.gx_pager.specs.Layers.{over, pieces, map_over, committed_in}
 use Rattle.gx_pager.specs.Left.{MapLeft, MapSince, Follows, HasSome, map_of_pages, sound_pages}
 use Rattle.gx_pager.specs.Maps.{cut}
-use Rattle.gx_pager.specs.Memory.{memory, committed_memory, overlay, unit, now_map, committed_map}
+use Rattle.gx_pager.specs.Memory.{committed_memory, overlay, unit, now_map, committed_map}
 use Rattle.gx_pager.specs.Placed.{IsFilled, Placed, IsPlaced}
 use Rattle.gx_pager.specs.declared.layers.Layers.{Layers}
 use Rattle.gx_pager.proofs.Adding.{same_map}

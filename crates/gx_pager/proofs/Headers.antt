@@ -1,5 +1,5 @@
 -- The numbers of a header.
-use Rattle.std.proofs.Common.{◌≡◌, ℕ, ◌^◌, ◌<◌, List, take, drop, sym, ◌∙◌, ap}
+use Rattle.std.proofs.Common.{◌≡◌, ℕ, ◌^◌, ◌<◌, List, take, drop, ◌∙◌, ap}
 use Rattle.gx_bytes.specs.Fields.{le32, le64, of32, of64, of32-le32, of64-le64}
 use Rattle.gx_pager.specs.Headers.{wrong_number, wrong_field}
 

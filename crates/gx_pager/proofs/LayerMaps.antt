@@ -1,12 +1,12 @@
 -- What changes of the layers make of the maps.
-use Rattle.std.proofs.Common.{◌≡◌, ℕ, ◌<◌, ◌≤◌, List, Option, Some, None, Box, is_some, true, refl, sym, ◌∙◌, ap}
+use Rattle.std.proofs.Common.{◌≡◌, ℕ, ◌<◌, List, Option, Some, None, Box, is_some, true, refl, ◌∙◌, ap}
 use Rattle.std.specs.declared.alloc.Global.{Global}
 use Rattle.std.specs.BTreeMap.{get}
 use Rattle.std.specs.Ordering.{nat_cmp}
 use Rattle.gx_words.specs.Image.{Image}
 use Rattle.gx_words.specs.PageMap.{PageMap, with_page}
 use Rattle.gx_log.specs.Records.{page_in}
-use Rattle.gx_pager.specs.Layers.{map_over, pieces, committed_in}
+use Rattle.gx_pager.specs.Layers.{map_over, pieces}
 use Rattle.gx_pager.specs.Maps.{cut}
 use Rattle.gx_pager.specs.Memory.{memory, committed_memory, overlay, unit, now_map, committed_map, Keeps}
 use Rattle.gx_pager.specs.declared.layers.Layers.{Layers}

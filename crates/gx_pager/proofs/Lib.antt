@@ -6,6 +6,7 @@ mod Placing
 mod Records
 mod Causes
 mod Maps
+mod Keeping
 mod LayerMaps
 mod Results
 mod Moments

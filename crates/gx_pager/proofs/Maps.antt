@@ -1,5 +1,5 @@
 -- Maps of pages, laid over one another.
-use Rattle.std.proofs.Common.{◌≡◌, ◌≢◌, ℕ, ◌+◌, ◌<◌, ◌==◌, nat_lt, if◌then◌else◌, List, Option, Some, None, Box, Bool, is_some, option_map, true, false, cond, refl, sym, ◌∙◌, ap, arith}
+use Rattle.std.proofs.Common.{◌≡◌, ◌≢◌, ℕ, ◌+◌, ◌<◌, ◌==◌, nat_lt, if◌then◌else◌, List, Option, Some, None, Box, Bool, is_some, option_map, true, false, cond, refl, ◌∙◌, ap, arith}
 use Rattle.std.specs.declared.alloc.Global.{Global}
 use Rattle.std.specs.Ordering.{nat_cmp, is_eq}
 use Rattle.std.specs.BTreeMap.{is_at}
@@ -8,7 +8,7 @@ use Rattle.std.proofs.lemmas.Grind.{common_steps}
 use Rattle.std.proofs.lemmas.Bool.Decides.{nat_tests}
 use Rattle.gx_words.specs.Image.{Image}
 use Rattle.gx_words.specs.PageMap.{PageMap, with_page}
-use Rattle.gx_log.specs.Records.{piece, page_in}
+use Rattle.gx_log.specs.Records.{page_in}
 use Rattle.gx_pager.specs.Layers.{over, shown, map_over, header_over, committed_in, pieces}
 use Rattle.gx_pager.specs.Maps.{cut}
 use Rattle.gx_pager.specs.Memory.{Keeps, memory, unit, now_map, header_now}

@@ -1,7 +1,6 @@
 -- What opening a disk leaves.
-use Rattle.std.proofs.Common.{◌≡◌, inl, inr, ⊎_elim, ℕ, ◌≤◌, ◌^◌, ◌==◌, ◌&&◌, nat_lt, Bool, true, false, cond, List, [], ◌∷◌, Option, Some, None, Result, Err, refl, sym, ◌∙◌, ap, arith}
+use Rattle.std.proofs.Common.{◌≡◌, ℕ, ◌≤◌, ◌^◌, ◌==◌, ◌&&◌, nat_lt, Bool, true, false, cond, List, [], ◌∷◌, Option, Some, None, Result, Err, refl, sym, ◌∙◌, ap, arith}
 use Rattle.gx_bytes.specs.Fields.{of64}
-use Rattle.gx_words.specs.Image.{Image}
 use Rattle.gx_words.specs.Moments.{Goes}
 use Rattle.gx_disk.specs.declared.disk.Disk.{Ghosts}
 use Rattle.gx_log.specs.Disks.{Leaves, Reads}

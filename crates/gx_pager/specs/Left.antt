@@ -1,5 +1,5 @@
 -- What a disk leaves, as maps of pages.
-use Rattle.std.specs.Prelude.{◌≡◌, ℕ, ◌^◌, ◌<◌, ◌≤◌, nat_lt, Bool, true, false, cond, List, Option, Some, None, IfSome, refl}
+use Rattle.std.specs.Prelude.{◌≡◌, ℕ, ◌^◌, ◌≤◌, nat_lt, Bool, true, false, cond, List, Option, Some, None, IfSome, refl}
 use Rattle.std.proofs.Common.{inl, inr, ⊎_elim, ◌∙◌, sym, ap, arith}
 use Rattle.std.proofs.lemmas.Grind.{common_steps}
 use Rattle.gx_bytes.specs.Fields.{of64, of64-le64}

@@ -1,5 +1,5 @@
 -- The pages that are in memory, and the maps that they make of an image.
-use Rattle.std.specs.Prelude.{◌≡◌, ℕ, List, true, is_some, IsTrue}
+use Rattle.std.specs.Prelude.{◌≡◌, ℕ, List, true, is_some}
 use Rattle.std.specs.BTreeMap.{get}
 use Rattle.std.specs.Ordering.{nat_cmp}
 use Rattle.gx_words.specs.Image.{Image}

@@ -1,5 +1,5 @@
 -- What opening a disk finds, and leaves.
-use Rattle.std.specs.Prelude.{◌≡◌, ◌⊎◌, ℕ, ◌≤◌, List, length, Option, Some, None, IfSome}
+use Rattle.std.specs.Prelude.{◌≡◌, ◌⊎◌, ℕ, ◌≤◌, List, length, Option, Some, None}
 use Rattle.gx_words.specs.Image.{Image}
 use Rattle.gx_words.specs.Moments.{Goes}
 use Rattle.gx_disk.specs.declared.disk.Disk.{Ghosts}

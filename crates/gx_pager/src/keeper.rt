@@ -1,6 +1,6 @@
 //! What a store on a host does besides the calls of a store.
 
-ghost use Rattle.std.specs.Prelude.{◌≡◌, ℕ, true, false, List, [], ◌++◌, take, is_err, OnOk, OnErr};
+ghost use Rattle.std.specs.Prelude.{◌≡◌, ℕ, true, false, List, [], ◌++◌, take, is_err, Some, OnOk, OnErr};
 ghost use Rattle.gx_words.specs.Causes.{FailsWith};
 ghost use Rattle.gx_words.specs.Moments.{Now, Saying, Elapses};
 ghost use Rattle.gx_words.specs.PageMap.{PageMap};
@@ -30,6 +30,10 @@ pub trait Keeper: Store {
         ensures emptied { OnOk result (Self.tells → counted_records self.new []) }
         ensures reserved { OnOk result (Self.reserved self.new ≡ true) }
         ensures map { Self.tells → HasNoGap (Self.committed self.old) → Self.map self.new ≡ Self.map self.old }
+
+        // Where there is a gap, each page that is there stays as it is.
+        ensures kept { Self.tells → (n : ℕ) (bytes : List ℕ) → Self.map self.old n ≡ Some bytes → Self.map self.new n ≡ Some bytes }
+        ensures kept_committed { Self.tells → (n : ℕ) (bytes : List ℕ) → Self.committed self.old n ≡ Some bytes → Self.committed self.new n ≡ Some bytes }
         ensures count { Self.count self.new ≡ Self.count self.old }
         ensures committed { IsCommitted (Self.tells × HasNoGap (Self.committed self.old)) Self.committed Self.committed_count self.new (Self.committed self.old) (Self.committed_count self.old) }
         ensures begun { Self.begun self.new ≡ Self.begun self.old }
@@ -58,4 +62,7 @@ pub trait Keeper: Store {
         ensures images { (m : PageMap) → Self.may_leave self.new m → Self.may_leave self.old m }
         ensures time { Elapses (Self.moment self.old) (Self.moment self.new) (Self.may_have_left_since self.old) (Self.may_have_left_since self.new) (Saying (Self.may_leave self.old) (Self.said self.old).bytes bytes.now) }
         ensures cause { FailsWith (Self.said self.old).faults (Self.said self.new).faults result };
+
+    // The log has one list of counted records: after an Ok of `checkpoint` it is empty, and stays so until a commit.
+    ghost one_list: { (s : Self) (a b : List Record) → counted_records s a → counted_records s b → a ≡ b };
 }

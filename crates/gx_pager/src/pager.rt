@@ -6,6 +6,7 @@ ghost use Rattle.std.specs.Ordering.{nat_cmp};
 ghost use Rattle.gx_bytes.specs.Fields.{le32, le64};
 ghost use Rattle.gx_words.specs.Causes.{Rose};
 ghost use Rattle.gx_words.specs.Image.{Image};
+ghost use Rattle.gx_words.specs.PageMap.{PageMap};
 ghost use Rattle.gx_log.specs.Records.{Record, Stands, HasMap, entries_in};
 ghost use Rattle.gx_pages.specs.Databases.{empty_pages};
 ghost use Rattle.gx_pages.specs.Frees.{HasCount, HasFirst};
@@ -13,7 +14,7 @@ ghost use Rattle.gx_pager.specs.Cached.{Agrees};
 ghost use Rattle.gx_pager.specs.Known.{IsSound};
 ghost use Rattle.gx_pager.specs.Layers.{shown, pieces};
 ghost use Rattle.gx_pager.specs.Opened.{IsRead};
-ghost use Rattle.gx_pager.specs.Openings.{OpenBroken};
+ghost use Rattle.gx_pager.specs.Openings.{OpenBroken, Opening, IsHeader};
 
 use crate::cache::Cache;
 use crate::checkpoint::close_log;
@@ -117,9 +118,15 @@ impl<'h, H: Host> Pager<'h, H> {
         ensures broken { (at expected found : ℕ) → result ≡ Err (PageError.Broken at expected found) → (expected ≢ found) × (H.tells → OpenBroken (H.told host.old) at expected found) }
         ensures space { (pages : ℕ) → result ≢ Err (PageError.PageSpace pages) }
         ensures sound { OnOk result (H.tells → (at expected found : ℕ) → OpenBroken (H.told host.old) at expected found → ⊥) }
+        ensures stands { H.tells → (map : PageMap) → HasMap (H.told host.old) map → IsHeader (map 0) → (at expected found : ℕ) → result ≡ Err (PageError.Broken at expected found) → ⊥ }
         ensures name { IfOk result (λ pager. pager.host.ghost_name ≡ host.entry.ghost_name) }
+
+        // The host was only read. Each image that a crash could leave has the committed map, and so has the disk as read.
+        ensures opening { IfOk result (λ pager. Opening H.Disk host.old pager.host.now) }
+        ensures left { IfOk result (λ pager. H.tells → (c : Image) → H.now_may_leave pager.host.now c → HasMap c (⟦<Pager<'h, H> as Pages>⟧.committed pager)) }
         ensures read { IfOk result (λ pager. H.tells → HasMap (H.told host.old) (⟦<Pager<'h, H> as Pages>⟧.committed pager)) }
         ensures map { IfOk result (λ pager. ⟦<Pager<'h, H> as Pages>⟧.map pager ≡ ⟦<Pager<'h, H> as Pages>⟧.committed pager) }
+        ensures count { IfOk result (λ pager. ⟦<Pager<'h, H> as Pages>⟧.count pager ≡ ⟦<Pager<'h, H> as Pages>⟧.committed_count pager) }
         ensures fresh { IfOk result (λ pager. (pager.spoiled ≡ false) × (pager.begun ≡ false) × (pager.fetches ≡ 0) × (pager.heap_fetches ≡ 0)) }
     {
         let opened = match read_file(alloc, host) {
@@ -160,6 +167,8 @@ impl<'h, H: Host> Pager<'h, H> {
 }
 
 impl<'h, H: Host> Pages for Pager<'h, H> {
+    ghost use Rattle.std.specs.Prelude.{◌*◌, ◌<◌, length, is_ok, None, IfErr};
+    ghost use Rattle.gx_pages.specs.Pages.{Quiet, HasCause};
     ghost use Rattle.gx_words.specs.Image.{Image};
     ghost use Rattle.gx_pager.specs.Left.{MapLeft, MapSince, Follows, committed_left, counted_zero, counted_committed, cut_ends, follows_same, follows_join};
     ghost use Rattle.gx_pager.specs.Layers.{pieces, map_over};
@@ -218,7 +227,24 @@ impl<'h, H: Host> Pages for Pager<'h, H> {
 
     ghost only_now = { λ p m left. let now = H.only_now p.host.now (record { image = left.1.0; bytes = m.bytes }) left.1.1 in ((left.0, (left.1.0, now.0, left.1.2)), now.1) };
 
-    fn fetch(&mut self, page: u64, into: &mut Page) -> Result<(), PageError> {
+    fn fetch(&mut self, page: u64, into: &mut Page) -> Result<(), PageError>
+        ensures bytes { OnOk result (H.tells → now_map self.old.layers (H.told self.old.host.now) page ≡ Some into.new) }
+        ensures below { OnOk result (page < self.old.layers.count) }
+        ensures past { self.old.layers.count ≤ page → result ≡ Err (PageError.Broken page (self.old.layers.count - 1) page) }
+        ensures cause { IfErr result (HasCause (H.faults self.old.host.now) (H.faults self.new.host.now) (λ at expected found. (at ≡ page) × (page < self.old.layers.count
+            → (expected ≡ 8192) × (found < 8192) × (H.tells → now_map self.old.layers (H.told self.old.host.now) page ≡ None))) (λ _. ⊥) ⊥) }
+
+        // Of a page that is lacking it tells how many bytes the disk has of it.
+        ensures lacking { (at expected found : ℕ) → result ≡ Err (PageError.Broken at expected found) → page < self.old.layers.count
+            → H.tells → found ≡ length (H.told self.old.host.now).pages - page * 8192 }
+        ensures map { now_map self.new.layers (H.told self.new.host.now) ≡ now_map self.old.layers (H.told self.old.host.now) }
+        ensures count { self.new.layers.count ≡ self.old.layers.count }
+        ensures fetches { self.new.fetches ≡ min (self.old.fetches + 1) (2 ^ 64 - 1) }
+        ensures heap { self.new.heap_fetches ≡ (if is_ok result then (if slice_index into.new 0 == 2 then min (self.old.heap_fetches + 1) (2 ^ 64 - 1) else self.old.heap_fetches) else self.old.heap_fetches) }
+        ensures quiet { Quiet (λ p. H.said p.host.now) (λ p. committed_map p.layers (H.told p.host.now)) (λ p. p.spoiled) (λ p. p.begun) (λ p. p.layers.committed_count)
+            (λ p. H.faults p.host.now) (λ p. H.moment p.host.now) (λ p. MapLeft H.Disk p.host.now) (λ p. MapSince H.Disk p.host.now)
+            (λ a b. (b.host.ghost_name ≡ a.host.ghost_name) × Follows H.Disk a.host.now b.host.now) self.old self.new }
+    {
         self.fetches = self.fetches.saturating_add(1);
         if page >= self.layers.count {
             return Err(PageError::Broken {
@@ -310,10 +336,13 @@ impl<'h, H: Host> Store for Pager<'h, H> {
 
 impl<'h, H: Host> Keeper for Pager<'h, H> {
     ghost use Rattle.gx_log.specs.Records.{Stands};
+    ghost use Rattle.gx_log.proofs.Bodies.{stands_same};
 
     ghost pending = { λ p. p.waiting };
 
     ghost counted_records = { λ p records. Stands records (H.told p.host.now).log };
+
+    ghost one_list = { λ p a b first second. stands_same a b (H.told p.host.now).log first second };
 
     fn waiting(&self) -> u64 {
         self.waiting

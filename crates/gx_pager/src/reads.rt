@@ -1,6 +1,6 @@
 //! Pages that are read, from memory or else from the disk.
 
-ghost use Rattle.std.specs.Prelude.{◌≡◌, ℕ, ◌^◌, ◌<◌, ◌≤◌, Some, None, IfErr, OnOk};
+ghost use Rattle.std.specs.Prelude.{◌≡◌, ℕ, ◌-◌, ◌*◌, ◌^◌, ◌<◌, ◌≤◌, length, Some, None, IfErr, OnOk};
 ghost use Rattle.gx_words.specs.PageMap.{PageMap};
 ghost use Rattle.gx_log.specs.Disks.{Reads};
 ghost use Rattle.gx_pages.specs.Pages.{HasCause};
@@ -27,7 +27,7 @@ fn read_cached<D: Disk>(
     requires { page < 2 ^ 50 }
     ensures bytes { OnOk result (D.tells → Agrees (pieces (D.told disk.old)) cache.old.pages.entries → pieces (D.told disk.old) page ≡ Some into.new) }
     ensures cause { IfErr result (HasCause (D.faults disk.old) (D.faults disk.new) (λ at expected found. (at ≡ page) × (expected ≡ 8192) × (found < 8192)
-        × (D.tells → pieces (D.told disk.old) page ≡ None)) (λ _. ⊥) ⊥) }
+        × (D.tells → (pieces (D.told disk.old) page ≡ None) × (found ≡ length (D.told disk.old).pages - page * 8192))) (λ _. ⊥) ⊥) }
     ensures agrees { D.tells → Agrees (pieces (D.told disk.old)) cache.old.pages.entries → Agrees (pieces (D.told disk.new)) cache.new.pages.entries }
     ensures reads { Reads D.Disk disk.old disk.new }
 {
@@ -54,7 +54,7 @@ pub fn load<D: Disk>(
     requires { page < 2 ^ 50 }
     ensures bytes { OnOk result (D.tells → Agrees (pieces (D.told disk.old)) cache.old.pages.entries → over (memory layers.now page) (pieces (D.told disk.old) page) ≡ Some into.new) }
     ensures cause { IfErr result (HasCause (D.faults disk.old) (D.faults disk.new) (λ at expected found. (at ≡ page) × (expected ≡ 8192) × (found < 8192)
-        × (D.tells → over (memory layers.now page) (pieces (D.told disk.old) page) ≡ None)) (λ _. ⊥) ⊥) }
+        × (D.tells → (over (memory layers.now page) (pieces (D.told disk.old) page) ≡ None) × (found ≡ length (D.told disk.old).pages - page * 8192))) (λ _. ⊥) ⊥) }
     ensures agrees { D.tells → Agrees (pieces (D.told disk.old)) cache.old.pages.entries → Agrees (pieces (D.told disk.new)) cache.new.pages.entries }
     ensures reads { Reads D.Disk disk.old disk.new }
 {

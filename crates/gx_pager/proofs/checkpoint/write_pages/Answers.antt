@@ -2,13 +2,12 @@ use Rattle.std.proofs.Common.{rules, ◌≡◌, ℕ, List, [], ◌∷◌, ◌++�
 use Rattle.std.proofs.lemmas.List.{append-nil}
 use Rattle.std.proofs.lemmas.Map.Iter.{rest_more, rest_all}
 use Rattle.std.specs.declared.alloc.Global.{Global}
-use Rattle.std.specs.BTreeMap.{get, is_at}
+use Rattle.std.specs.BTreeMap.{is_at}
 use Rattle.std.specs.List.Sorted.{IsStrictlySortedBy}
 use Rattle.std.specs.Map.{lookup, keys_of}
 use Rattle.std.specs.Map.Iter.{deref_pair}
 use Rattle.std.specs.Ordering.{nat_cmp}
 use Rattle.gx_words.proofs.Runs.{no_call}
-use Rattle.gx_words.specs.PageMap.{PageMap}
 use Rattle.gx_log.specs.Records.{page_in}
 use Rattle.gx_pager.specs.Layers.{shown}
 use Rattle.gx_pager.specs.Maps.{cut}

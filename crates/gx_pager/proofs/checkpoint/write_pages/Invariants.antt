@@ -1,4 +1,4 @@
-use Rattle.std.proofs.Common.{◌≡◌, ℕ, ◌≤◌, List, ◌++◌}
+use Rattle.std.proofs.Common.{◌≡◌, ◌≤◌, ◌++◌}
 use Rattle.gx_words.specs.Image.{Image}
 use Rattle.gx_words.specs.Moments.{Goes}
 use Rattle.gx_log.specs.Disks.{Leaves}

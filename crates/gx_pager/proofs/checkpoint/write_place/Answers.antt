@@ -1,9 +1,7 @@
-use Rattle.std.proofs.Common.{◌≡◌, ℕ, List, Some, ◌∙◌, ap, arith}
+use Rattle.std.proofs.Common.{◌≡◌, ◌∙◌, ap, arith}
 use Rattle.gx_words.proofs.Runs.{one_call}
 use Rattle.gx_words.specs.Moments.{Now}
-use Rattle.gx_words.specs.PageMap.{PageMap}
 use Rattle.gx_log.specs.Records.{page_in}
-use Rattle.gx_pager.specs.Maps.{cut}
 use Rattle.gx_pager.specs.Placed.{IsPlaced}
 use Rattle.gx_pager.proofs.Maps.{cut_below}
 use Rattle.gx_pager.proofs.Placing.{placed_image, other_stays}

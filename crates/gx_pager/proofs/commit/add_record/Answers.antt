@@ -1,4 +1,4 @@
-use Rattle.std.proofs.Common.{◌≡◌, ℕ, length, ap, arith}
+use Rattle.std.proofs.Common.{◌≡◌, length, ap, arith}
 use Rattle.gx_log.specs.Records.{entries_in}
 use Rattle.gx_log.proofs.Bodies.{stands_same}
 use Rattle.gx_pager.specs.Memory.{overlay}

@@ -1,9 +1,8 @@
-use Rattle.std.proofs.Common.{◌≡◌, ℕ, List, [], ◌∷◌, Some, sym, ◌∙◌, ap, subst, arith}
+use Rattle.std.proofs.Common.{◌≡◌, ℕ, List, [], ◌∷◌, sym, ◌∙◌, ap, subst, arith}
 use Rattle.gx_words.specs.Image.{Image}
 use Rattle.gx_log.specs.Records.{Stands, HasMap, piece}
 use Rattle.gx_pages.specs.Contents.{below, given}
 use Rattle.gx_pages.specs.Databases.{catalog_page}
-use Rattle.gx_pages.specs.Frees.{HasCount}
 use Rattle.gx_pager.proofs.Formatting.{two_map}
 use Rattle.gx_pager.proofs.Placing.{other_stays}
 use Rattle.gx_pager.proofs.format.format.Goals as goal

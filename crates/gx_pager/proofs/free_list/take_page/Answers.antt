@@ -1,6 +1,4 @@
-use Rattle.std.proofs.Common.{◌≡◌, ℕ, List, Some, sym, ◌∙◌, ap, arith}
-use Rattle.gx_words.specs.PageMap.{PageMap}
-use Rattle.gx_pages.specs.Databases.{grown, unchained}
+use Rattle.std.proofs.Common.{◌≡◌, Some, sym, ◌∙◌, ap, arith}
 use Rattle.gx_pages.proofs.Footprints.{cause_weaker}
 use Rattle.gx_pages.proofs.Taking.{took_grown, took_unchained, one_free, some_free}
 use Rattle.gx_pager.specs.Memory.{now_map}

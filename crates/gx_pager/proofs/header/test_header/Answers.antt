@@ -1,4 +1,4 @@
-use Rattle.std.proofs.Common.{ℕ, List, take, drop, sym, ◌∙◌, ap, arith}
+use Rattle.std.proofs.Common.{ℕ, List, take, drop, sym, ◌∙◌, ap}
 use Rattle.gx_pager.proofs.Headers.{wrong_is}
 use Rattle.gx_pager.proofs.header.test_header.Goals as goal
 

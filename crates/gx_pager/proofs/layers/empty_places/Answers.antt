@@ -1,4 +1,4 @@
-use Rattle.std.proofs.Common.{rules, ◌≡◌, ℕ, List, Option, Some, None, Box, is_some, true, map, option_map, sym, ◌∙◌, ap}
+use Rattle.std.proofs.Common.{rules, ℕ, List, Option, Box, is_some, ◌∙◌, ap}
 use Rattle.std.specs.declared.alloc.Global.{Global}
 use Rattle.std.specs.BTreeMap.{is_at}
 use Rattle.std.specs.Map.{lookup}

@@ -1,12 +1,11 @@
-use Rattle.std.proofs.Common.{◌≡◌, inr, ⊎_elim, ℕ, nat_lt, List, length, Option, Some, None, Box, Err, refl, sym, ◌∙◌, ap, subst, arith}
+use Rattle.std.proofs.Common.{◌≡◌, inr, ⊎_elim, ℕ, nat_lt, List, length, Option, Box, Err, refl, sym, ◌∙◌, ap, subst, arith}
 use Rattle.std.specs.declared.alloc.Global.{Global}
 use Rattle.std.specs.BTreeMap.{get, is_at}
 use Rattle.std.specs.Map.{lookup}
 use Rattle.std.specs.Ordering.{nat_cmp}
 use Rattle.gx_words.specs.Image.{Image}
-use Rattle.gx_words.specs.PageMap.{PageMap}
 use Rattle.gx_disk.specs.declared.area.Area.TheVariants.{Pages, Log}
-use Rattle.gx_log.specs.Records.{Record, Stands, HasMap, count_in, laid_all, page_in, piece}
+use Rattle.gx_log.specs.Records.{Record, Stands, count_in, laid_all, page_in, piece}
 use Rattle.gx_log.proofs.Bodies.{stands_same}
 use Rattle.gx_log.proofs.Finding.{not_standing}
 use Rattle.gx_pages.specs.declared.error.PageError.{PageError}
@@ -14,8 +13,7 @@ use Rattle.gx_pages.specs.declared.error.PageError.TheVariants as error
 use Rattle.gx_pages.specs.Pages.{HasCause}
 use Rattle.gx_pages.proofs.Footprints.{cause_weaker}
 use Rattle.gx_pager.specs.Layers.{over, shown}
-use Rattle.gx_pager.specs.Memory.{overlay}
-use Rattle.gx_pager.specs.Openings.{Opening, IsHeader, ZeroBroken}
+use Rattle.gx_pager.specs.Openings.{IsHeader, ZeroBroken}
 use Rattle.gx_pager.proofs.Opening.{laid_all_over, opening_of, opening_reads, zero_stands, zero_fine, log_stands, err_same}
 use Rattle.gx_pager.proofs.open.read_file.Goals as goal
 

@@ -1,4 +1,4 @@
-use Rattle.std.proofs.Common.{◌≡◌, sym, ◌∙◌, ap, subst}
+use Rattle.std.proofs.Common.{sym, subst}
 use Rattle.gx_words.specs.Image.{Image}
 use Rattle.gx_pager.specs.Cached.{Agrees}
 use Rattle.gx_pager.specs.Layers.{pieces}

@@ -1,5 +1,4 @@
 use Rattle.std.proofs.Common.{Some, sym, ◌∙◌, ap}
-use Rattle.std.proofs.lemmas.Grind.{common_steps}
 use Rattle.gx_pager.proofs.Cached.{found_agrees, promoted_agrees}
 use Rattle.gx_pager.proofs.cache.Cache.get.Goals as goal
 

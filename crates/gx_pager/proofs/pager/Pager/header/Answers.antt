@@ -1,6 +1,5 @@
-use Rattle.std.proofs.Common.{◌≡◌, ℕ, List, Some, take, drop, sym, ◌∙◌, ap, subst, arith}
-use Rattle.gx_bytes.specs.Fields.{le32, le64, le64-same}
-use Rattle.gx_pages.specs.Frees.{HasCount, HasFirst}
+use Rattle.std.proofs.Common.{ℕ, List, take, drop, sym, ◌∙◌, ap, arith}
+use Rattle.gx_bytes.specs.Fields.{le64-same}
 use Rattle.gx_pager.specs.Memory.{header_now}
 use Rattle.gx_pager.proofs.Maps.{zero_there, some_same}
 use Rattle.gx_pager.proofs.pager.Pager.header.Goals as goal

@@ -1,4 +1,4 @@
-use Rattle.std.proofs.Common.{◌≡◌, refl, sym, ap, subst}
+use Rattle.std.proofs.Common.{refl, sym, subst}
 use Rattle.gx_words.specs.Image.{Image}
 use Rattle.gx_log.specs.Records.{Stands}
 use Rattle.gx_pager.specs.Cached.{Agrees}

@@ -1,14 +1,15 @@
-use Rattle.std.proofs.Common.{◌≡◌, ℕ, true, false, refl, sym, ◌∙◌, ap, subst}
-use Rattle.gx_words.specs.Image.{Image}
-use Rattle.gx_words.specs.PageMap.{PageMap}
-use Rattle.gx_log.specs.Records.{entries_in}
+use Rattle.std.proofs.Common.{◌≡◌, true, false, None, refl, sym, ◌∙◌, ap, arith}
+use Rattle.std.specs.BTreeMap.{get}
+use Rattle.std.specs.Ordering.{nat_cmp}
+use Rattle.gx_log.specs.Records.{entries_in, page_in}
 use Rattle.gx_log.proofs.Bodies.{stands_same}
-use Rattle.gx_pages.specs.Pages.{HasNoGap}
-use Rattle.gx_pager.specs.Known.{IsSound, sound_of}
-use Rattle.gx_pager.specs.Layers.{pieces}
-use Rattle.gx_pager.specs.Memory.{overlay, committed_map}
-use Rattle.gx_pager.specs.Placed.{due, IsFilled}
+use Rattle.gx_pager.specs.Known.{sound_of}
+use Rattle.gx_pager.specs.Layers.{pieces, map_over, committed_in}
+use Rattle.gx_pager.specs.Maps.{cut}
+use Rattle.gx_pager.specs.Memory.{overlay, unit, now_map, committed_map}
 use Rattle.gx_pager.proofs.Closing.{filled}
+use Rattle.gx_pager.proofs.Keeping.{left_keeps, made_keeps}
+use Rattle.gx_pager.proofs.LayerMaps.{unit_taken}
 use Rattle.gx_pager.proofs.Ending.{ends_time, ends_images, ends_follows, left_now_map, left_committed_map, made_now_map, made_committed_map, made_sound}
 use Rattle.gx_pager.proofs.pager.PagerKeeper.checkpoint.Goals as goal
 
@@ -45,6 +46,18 @@ returns-in-Err-clause-map g c = λ tells no_gap.
     let s = sound_of g.H.Disk p.host.now p.log l.header (overlay l) (p.sound tells c.requires) in
     let full = filled l.header (overlay l) l.committed_count (g.H.Disk.told p.host.now) s.zero no_gap in
     left_now_map l (g.H.Disk.told p.host.now) (g.H.Disk.told c.close_log.new.disk) s.zero ((c.close_log.ensures.placed tells).0 full)
+
+pub returns-in-Err-clause-kept : goal.returns-in-Err-clause-kept
+returns-in-Err-clause-kept g c = λ tells.
+    let l = c.args.self.now.layers in
+    left_keeps (unit l) (overlay l) l.header l.committed_count l.count (g.H.Disk.told c.args.self.now.host.now) (g.H.Disk.told c.close_log.new.disk)
+    (λ n above small. unit_taken l n (l.fresh n above small)) (c.close_log.ensures.placed tells).2
+
+pub returns-in-Err-clause-kept_committed : goal.returns-in-Err-clause-kept_committed
+returns-in-Err-clause-kept_committed g c = λ tells.
+    let l = c.args.self.now.layers in
+    left_keeps (λ _. None) (overlay l) l.header l.committed_count l.committed_count (g.H.Disk.told c.args.self.now.host.now) (g.H.Disk.told c.close_log.new.disk)
+    (λ n above small. absurd (omega (arith, above, small))) (c.close_log.ensures.placed tells).2
 
 pub returns-in-Err-clause-committed : goal.returns-in-Err-clause-committed
 returns-in-Err-clause-committed g c = (
@@ -110,6 +123,30 @@ returns-clause-map g c = λ tells no_gap.
     let full = filled l.header (overlay l) l.committed_count (g.H.Disk.told p.host.now) s.zero no_gap in
     let f = c.forget.ensures in
     made_now_map l (g.H.Disk.told p.host.now) (g.H.Disk.told c.close_log.new.disk) s.zero ((c.close_log.ensures.placed tells).0 full) c.forget.new.self (c.in-Ok.ensures.written tells) f.overlay f.unit f.header f.count
+
+pub returns-clause-kept : goal.returns-clause-kept
+returns-clause-kept g c = λ tells n bytes there.
+    let l = c.args.self.now.layers in
+    let later = c.forget.new.self in
+    let f = c.forget.ensures in
+    let image = g.H.Disk.told c.close_log.new.disk in
+    let same : now_map later image ≡ cut l.count (map_over (map_over (unit l) (committed_in l.header (overlay later))) (pieces image)) =
+    λ i. cut (f.count i) (map_over (map_over (λ n. page_in (get nat_cmp (f.unit i) n)) (committed_in (f.header i) (overlay later))) (pieces image)) in
+    (λ i. same i n)
+    ∙ made_keeps (unit l) (overlay l) l.header l.committed_count l.count (g.H.Disk.told c.args.self.now.host.now) image (λ n above small. unit_taken l n (l.fresh n above small)) (c.close_log.ensures.placed tells).2
+    (overlay later) (c.in-Ok.ensures.written tells) f.overlay n bytes there
+
+pub returns-clause-kept_committed : goal.returns-clause-kept_committed
+returns-clause-kept_committed g c = λ tells n bytes there.
+    let l = c.args.self.now.layers in
+    let later = c.forget.new.self in
+    let f = c.forget.ensures in
+    let image = g.H.Disk.told c.close_log.new.disk in
+    let same : committed_map later image ≡ cut l.committed_count (map_over (committed_in l.header (overlay later)) (pieces image)) =
+    λ i. cut (f.committed_count i) (map_over (committed_in (f.header i) (overlay later)) (pieces image)) in
+    (λ i. same i n)
+    ∙ made_keeps (λ _. None) (overlay l) l.header l.committed_count l.committed_count (g.H.Disk.told c.args.self.now.host.now) image (λ n above small. absurd (omega (arith, above, small)))
+    (c.close_log.ensures.placed tells).2 (overlay later) (c.in-Ok.ensures.written tells) f.overlay n bytes there
 
 pub returns-clause-committed : goal.returns-clause-committed
 returns-clause-committed g c = (

@@ -3,7 +3,7 @@ use Rattle.gx_pages.proofs.Taking.{keeps_same}
 use Rattle.gx_pager.specs.Memory.{overlay, now_map}
 use Rattle.gx_pager.proofs.LayerMaps.{same_map, keeps_map}
 use Rattle.gx_pager.proofs.Results.{on_ok, on_err, either_on}
-use Rattle.gx_pager.proofs.Moments.{reads_none, sound_reads, maps_reads, left_reads, follows_reads}
+use Rattle.gx_pager.proofs.Moments.{reads_none, sound_reads, maps_reads, follows_reads}
 use Rattle.gx_pager.proofs.pager.PagerPages.give.Goals as goal
 
 pub invariant_of-self : goal.invariant_of-self

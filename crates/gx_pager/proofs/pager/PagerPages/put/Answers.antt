@@ -1,7 +1,7 @@
-use Rattle.std.proofs.Common.{◌≡◌, ◌∙◌, ap, refl, arith}
+use Rattle.std.proofs.Common.{refl, arith}
 use Rattle.gx_pager.specs.Memory.{overlay}
 use Rattle.gx_pager.proofs.LayerMaps.{put_map, same_map, keeps_map}
-use Rattle.gx_pager.proofs.Moments.{reads_none, sound_reads, maps_reads, left_reads, follows_reads}
+use Rattle.gx_pager.proofs.Moments.{reads_none, sound_reads, maps_reads, follows_reads}
 use Rattle.gx_pager.proofs.pager.PagerPages.put.Goals as goal
 
 pub invariant_of-self : goal.invariant_of-self

@@ -1,10 +1,9 @@
-use Rattle.std.proofs.Common.{◌≡◌, ◌∙◌, sym, ap, refl, subst, arith, ℕ, ◌∷◌}
+use Rattle.std.proofs.Common.{◌≡◌, ◌∙◌, sym, ap, refl, subst, arith, ◌∷◌}
 use Rattle.gx_words.specs.Image.{Image}
 use Rattle.gx_words.specs.PageMap.{PageMap}
 use Rattle.gx_log.specs.Records.{Stands}
 use Rattle.gx_pages.proofs.Taking.{Took, keeps_same}
 use Rattle.gx_pages.proofs.Footprints.{cause_weaker, free_list_at}
-use Rattle.gx_pages.specs.Frees.{IsFull}
 use Rattle.gx_pager.specs.Memory.{overlay, now_map}
 use Rattle.gx_pager.proofs.LayerMaps.{same_map, keeps_map}
 use Rattle.gx_pager.proofs.Results.{if_ok, if_ok_anyway, on_err, if_err_on, either}

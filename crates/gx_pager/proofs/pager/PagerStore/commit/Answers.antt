@@ -1,8 +1,7 @@
 use Rattle.std.proofs.Common.{◌≡◌, inl, ℕ, true, false, List, refl, sym, ◌∙◌, ap, subst, arith}
 use Rattle.std.proofs.Math.Logic.{∥∥₁_map}
-use Rattle.gx_words.specs.Image.{Image}
 use Rattle.gx_words.specs.PageMap.{PageMap}
-use Rattle.gx_log.specs.Records.{entries_in, piece}
+use Rattle.gx_log.specs.Records.{piece}
 use Rattle.gx_log.proofs.Bodies.{entries_in-opened}
 use Rattle.gx_pager.specs.Cached.{Agrees}
 use Rattle.gx_pager.specs.Known.{IsSound, sound_of}
