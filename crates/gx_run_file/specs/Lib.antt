@@ -1,0 +1,11 @@
+pub mod Headline
+pub mod Replied
+pub mod Moves
+pub mod Scripts
+pub mod Top
+pub mod Try
+pub mod Lines
+pub mod Inits
+pub mod Words
+pub mod Statuses
+pub mod Outcomes
