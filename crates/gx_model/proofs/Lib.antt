@@ -1,3 +1,4 @@
+pub mod Finding
 mod Tables
 mod Stepping
 mod Turning

@@ -1,8 +1,12 @@
 -- Every turn of a valid session leaves a valid one.
-use Rattle.std.proofs.Common.{◌≡◌, ◌⊎◌, inl, inr, ℕ, List, Option, Some, None, refl, sym, ap, subst}
-use Rattle.gx_parse.specs.Answers.{Answer, says, wrong_at, too_deep}
-use Rattle.gx_parse.specs.Said.{Said, Nothing, Vacuum, Checkpoint, Begin, Commit, Rollback}
-use Rattle.gx_model.specs.Database.{Database, IsValid}
+use Rattle.std.proofs.Common.{◌≡◌, ◌⊎◌, inl, inr, ℕ, Bool, true, false, cond, nat_lt, List, [], ◌∷◌, length, map, Option, Some, None, refl, sym, ap, subst}
+use Rattle.std.specs.List.{AllByRecursion}
+use Rattle.gx_lexer.specs.Feeding.{longest}
+use Rattle.gx_parse.specs.Answers.{Answer, says, wrong_at, too_deep, answer_of}
+use Rattle.gx_parse.specs.declared.statement.ColumnWord.{ColumnWord}
+use Rattle.gx_parse.specs.Said.{Said, Nothing, CreateTable, DropTable, CreateIndex, DropIndex, Insert, Delete, Select, Explain, Vacuum, Checkpoint, Begin, Commit, Rollback}
+use Rattle.gx_parse.specs.Sound.{IsName, HasNames}
+use Rattle.gx_model.specs.Database.{Database, IsValid, IsShort}
 use Rattle.gx_model.specs.Steps.{HasShortNames}
 use Rattle.gx_model.specs.Turns.{Session, Block, idle, begun, failed, AreValid, session_over, refused_in, seen_as, seen, seen_in, Turned, Turns, TurnsSeen, TurnsIdle, TurnsBegun, TurnsFailed, TurnsIn, TurnsSaid, TurnsBy, reading_of}
 use Rattle.gx_model.proofs.OneTurn.{Facts}
@@ -74,3 +78,32 @@ of_reading facts (Some too_deep) session turned n v h = as_turned turned _ h (re
 pub turn_valid : Facts → (session : Session) (piece : List ℕ) (turned : Turned) → ((said : Said) → reading_of piece ≡ Some (says said) → HasShortNames said) → AreValid session → Turns session piece turned
     → AreValid turned.session
 turn_valid facts session piece turned n v h = of_reading facts (reading_of piece) session turned n v h
+
+-- The names of a statement that is read.
+
+read_if : (b : Bool) (a : Answer) (said : Said) → cond b None (Some a) ≡ Some (says said) → a ≡ says said
+read_if true a said e = cc
+read_if false a said e = cc
+
+pub is_read : (piece : List ℕ) (said : Said) → reading_of piece ≡ Some (says said) → answer_of piece ≡ says said
+is_read piece said e = read_if (nat_lt longest (length piece)) (answer_of piece) said e
+
+short_columns : (cs : List ColumnWord) → AllByRecursion (λ (c : ColumnWord). IsName c.name) cs → AllByRecursion IsShort (map (λ c. c.name) cs)
+short_columns [] h = tt
+short_columns (c ∷ cs) h = (h.0.most, short_columns cs h.1)
+
+pub short_names : (said : Said) → HasNames said → HasShortNames said
+short_names (CreateTable name columns) h = (h.0.most, short_columns columns h.1)
+short_names (DropTable name) h = tt
+short_names (CreateIndex name table method column class parameter) h = tt
+short_names (DropIndex name) h = tt
+short_names (Insert table listed rows) h = tt
+short_names (Delete table condition) h = tt
+short_names (Select q) h = tt
+short_names (Explain q) h = tt
+short_names (Vacuum table) h = tt
+short_names Nothing h = tt
+short_names Checkpoint h = tt
+short_names Begin h = tt
+short_names Commit h = tt
+short_names Rollback h = tt

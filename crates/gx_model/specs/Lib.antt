@@ -1,6 +1,7 @@
 pub mod Database
 pub mod Truth
 pub mod Checks
+pub mod Refusals
 pub mod Conditions
 pub mod Values
 pub mod Classes

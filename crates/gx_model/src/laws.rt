@@ -8,6 +8,7 @@ ghost use Rattle.gx_value.specs.Values.{Datum};
 ghost use Rattle.gx_parse.specs.Answers.{says};
 ghost use Rattle.gx_parse.specs.declared.statement.Given.{Given};
 ghost use Rattle.gx_parse.specs.Said.{Said, Insert, Delete, Rollback};
+ghost use Rattle.gx_parse.specs.Sound.{IsSound};
 ghost use Rattle.gx_parse.specs.Trees.{Tree};
 ghost use Rattle.gx_model.specs.Conditions.{BindsWhere};
 ghost use Rattle.gx_model.specs.Database.{Database, Table, Row, IsIn, IsValid, table_named, with_rows};
@@ -60,13 +61,14 @@ pub fn one_turn()
     gx_opr::one_operand();
 }
 
-/// Every step of a valid database leaves a valid one, and every turn of a valid session a valid session, where the names
-/// that the statement gives are no longer than names may be.
+/// Every step of a valid database leaves a valid one, where the names that the statement gives are no longer than names may
+/// be, as those of each statement that is read are; and every turn of a valid session leaves a valid session.
 pub fn stays_valid()
     ensures step { (db : Database) (said : Said) (stepped : Stepped) → IsValid db → HasShortNames said → Steps db said stepped → IsValid stepped.database }
-    ensures turn { (session : Session) (piece : List ℕ) (turned : Turned) → ((said : Said) → reading_of piece ≡ Some (says said) → HasShortNames said) → AreValid session
-        → Turns session piece turned → AreValid turned.session }
+    ensures sound { (db : Database) (said : Said) (stepped : Stepped) → IsValid db → IsSound said → Steps db said stepped → IsValid stepped.database }
+    ensures turn { (session : Session) (piece : List ℕ) (turned : Turned) → AreValid session → Turns session piece turned → AreValid turned.session }
 {
+    gx_parse::sound_statements();
     gx_value::one_answer();
     gx_value::one_row();
     gx_opr::one_operand();

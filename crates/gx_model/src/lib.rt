@@ -2,8 +2,10 @@
 #![tactic(auto)]
 
 mod laws;
+mod refusal;
 
 pub use laws::{
     deleted_rows, inserted_rows, one_run, one_turn, refused_changes_nothing, rolled_back,
     stays_valid, three_values,
 };
+pub use refusal::Refusal;

@@ -8,6 +8,7 @@ mod HeadFacts
 mod OneFault
 mod RunFacts
 mod SaidFacts
+mod SaidParts
 mod SoundFacts
 mod TokenFacts
 mod WiderFacts

@@ -14,3 +14,4 @@ pub mod States
 pub mod Tables
 pub mod Trees
 pub mod Words
+pub mod Sound

@@ -8,6 +8,7 @@ ghost use Rattle.gx_parse.specs.Grammar.{Says};
 ghost use Rattle.gx_parse.specs.Outcomes.{Limits};
 ghost use Rattle.gx_parse.specs.Runs.{statement_of};
 ghost use Rattle.gx_parse.specs.Said.{Said};
+ghost use Rattle.gx_parse.specs.Sound.{IsSound};
 
 /// What is read of tokens is the statement that they say, and each statement that they say is read.
 pub fn one_statement()
@@ -25,3 +26,10 @@ pub fn one_answer()
     ensures wrong { (piece : List ℕ) (at : ℕ) → (answers.answer_of piece ≡ answers.wrong_at at) ↔ IsWrongAt piece at }
     ensures deep { (piece : List ℕ) → (answers.answer_of piece ≡ answers.too_deep) ↔ IsTooDeep piece }
 {}
+
+/// Of each statement that is read, the literals are literals, and the names that it gives have 1 to 63 bytes.
+pub fn sound_statements()
+    ensures { (piece : List ℕ) (said : Said) → answers.answer_of piece ≡ answers.says said → IsSound said }
+{
+    gx_lexer::words_are_short();
+}

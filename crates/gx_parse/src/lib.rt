@@ -19,7 +19,7 @@ mod words;
 
 pub use error::ParseError;
 pub use gx_lexer::{Cutter, Piece, Pieces};
-pub use law::{one_answer, one_meaning, one_statement};
+pub use law::{one_answer, one_meaning, one_statement, sound_statements};
 pub use lists::{Items, Names};
 pub use parsing::parse;
 pub use statement::{

@@ -1,6 +1,6 @@
 //! From a piece to its statement.
 
-ghost use Rattle.std.specs.Prelude.{◌≡◌, ◌≤◌, ◌==◌, not, length, MatchResult};
+ghost use Rattle.std.specs.Prelude.{◌≡◌, ◌≤◌, ◌==◌, not, length, IfOk, MatchResult};
 ghost use Rattle.std.specs.List.{prefix_len};
 ghost use Rattle.std.specs.Str.Lossy.{utf8_valid_len};
 ghost use Rattle.gx_lexer.specs.Tokens.{placed};
@@ -8,9 +8,11 @@ ghost use Rattle.gx_parse.specs.Answers as answers;
 ghost use Rattle.gx_parse.specs.Faults.{IsSaid, IsFault};
 ghost use Rattle.gx_parse.specs.Outcomes.{limits};
 ghost use Rattle.gx_parse.specs.Said.{said_of};
+ghost use Rattle.gx_parse.specs.Sound.{IsSound};
 ghost use Rattle.gx_parse.specs.States.{said_at, state_of};
 
 use crate::error::ParseError;
+use crate::law::sound_statements;
 use crate::outcome::Outcome;
 use crate::reader::{Head, Reader};
 use crate::statement::Statement;
@@ -20,8 +22,10 @@ use std::alloc::Global;
 /// The statement that a piece says, or its first fault: the first token with which no statement goes on, or
 /// the one that opens or joins too much in a condition, whichever stands first.
 pub fn parse(alloc: Global, piece: &[u8]) -> Result<Statement, ParseError>
-    ensures { MatchResult result (λ s. IsSaid piece.now (said_of s)) (λ e. IsFault piece.now e) }
+    ensures answer { MatchResult result (λ s. IsSaid piece.now (said_of s)) (λ e. IsFault piece.now e) }
+    ensures sound { IfOk result (λ s. IsSound (said_of s)) }
 {
+    sound_statements();
     read_piece(alloc, piece)
 }
 
