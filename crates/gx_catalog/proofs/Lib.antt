@@ -1,6 +1,7 @@
 mod Adding
 mod Changes
 mod Fronts
+mod Growing
 mod Keys
 mod Lengths
 mod Moves

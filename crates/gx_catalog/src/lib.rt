@@ -14,4 +14,7 @@ mod writing;
 
 pub use catalog::Catalog;
 pub use info::{IndexInfo, TableInfo};
-pub use laws::{catalog_stays, empty_catalog, one_catalog, same_catalog};
+pub use laws::{
+    catalog_stays, empty_catalog, found_among, none_counted, one_catalog, one_more_index,
+    one_more_table, own_found, same_catalog,
+};

@@ -20,7 +20,7 @@ absent_step : (name : List ℕ) (b : Bool) (t : Table) (rest : Option Table) →
 absent_step name true t rest h e = cc
 absent_step name false t rest h e = (h, e)
 
-at_front : (name : List ℕ) (t : Table) (ts : List Table) (i : TableInfo) (infos : List TableInfo) (s : Stored) (stored : List Stored) → IsStored t i s → AreStored ts infos stored
+unfoldable pub at_front : (name : List ℕ) (t : Table) (ts : List Table) (i : TableInfo) (infos : List TableInfo) (s : Stored) (stored : List Stored) → IsStored t i s → AreStored ts infos stored
     → Place name t (t ∷ ts) (i ∷ infos) (s ∷ stored)
 at_front name t ts i infos s stored h k = record {
   tables_before = [];
@@ -40,7 +40,7 @@ at_front name t ts i infos s stored h k = record {
   others = tt;
 }
 
-behind : (name : List ℕ) (t u : Table) (ts : List Table) (i : TableInfo) (infos : List TableInfo) (s : Stored) (stored : List Stored) → IsStored u i s → is_table name u ≡ false → Place name t ts infos stored
+unfoldable pub behind : (name : List ℕ) (t u : Table) (ts : List Table) (i : TableInfo) (infos : List TableInfo) (s : Stored) (stored : List Stored) → IsStored u i s → is_table name u ≡ false → Place name t ts infos stored
     → Place name t (u ∷ ts) (i ∷ infos) (s ∷ stored)
 behind name t u ts i infos s stored h n p = record {
   tables_before = u ∷ p.tables_before;

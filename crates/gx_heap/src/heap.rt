@@ -179,6 +179,7 @@ impl Heap {
         ensures count { P.count pages.new ≡ P.count pages.old }
         ensures ticks { P.heap_fetches pages.new + steps.old ≤ P.heap_fetches pages.old + steps.new }
         ensures most { steps.new ≤ steps.old + 1 }
+        ensures fetches { P.fetches pages.new ≤ P.fetches pages.old + 1 }
         ensures quiet { StaysQuiet P.Pages pages.old pages.new }
     {
         steps.tick();
