@@ -1,9 +1,13 @@
-//! Tests of slot pages, chains and heaps, through their public calls.
+//! Tests of slot pages, chains, heaps and lists of rows, through their public calls.
 #![tactic(auto)]
 
+#[cfg(test)]
+mod bitmaps;
 #[cfg(test)]
 mod chains;
 #[cfg(test)]
 mod heaps;
+#[cfg(test)]
+mod places;
 #[cfg(test)]
 mod slots;
