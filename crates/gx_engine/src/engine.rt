@@ -3,6 +3,7 @@
 ghost use Rattle.std.specs.Prelude.{◌≡◌, ◌≢◌, ◌⊎◌, ◌↔◌, ℕ, ◌+◌, ◌≤◌, false, List, [], codes, Err, is_err, IfOk, IfErr, OnOk, IsTrue};
 ghost use Rattle.gx_words.specs.Causes.{Rose};
 ghost use Rattle.gx_lexer.specs.Feeding.{piece_of};
+ghost use Rattle.gx_chain.specs.Chains.{IsSound};
 ghost use Rattle.gx_pages.specs.Pages.{HasCause};
 ghost use Rattle.gx_model.specs.Turns.{Session, TurnCosts};
 ghost use Rattle.gx_engine.specs.Engines.{IsIn, Executed, Stopped, Unmade, reply_of, checkpoint_reply};
@@ -75,8 +76,8 @@ impl<P: Store> Engine<P> {
         ensures cause { IfErr result (HasCause (P.faults self.old.store) (P.faults self.new.store)
             (λ at expected found. P.tells → (session : Session) → IsIn P.Pages self.old.store self.old.kind session → ⊥) (λ _. ⊥) (Unit {0})) }
 
-        // How many heap pages were fetched.
-        ensures least { P.heap_fetches self.new.store + steps.old ≤ P.heap_fetches self.old.store + steps.new }
+        // At least as many steps as heap pages were fetched, but where the pages are broken.
+        ensures least { IsSound result → P.heap_fetches self.new.store + steps.old ≤ P.heap_fetches self.old.store + steps.new }
         ensures most { P.tells → (session : Session) (text : List ℕ) → IsIn P.Pages self.old.store self.old.kind session → piece_of text ≡ piece.now → (n : ℕ) → TurnCosts session text n → steps.new ≤ steps.old + n }
 
         // A piece without a reply, and CHECKPOINT, which is accepted outside a block alone, don't call the store.

@@ -2,6 +2,7 @@
 
 ghost use Rattle.std.specs.Prelude.{◌≡◌, ◌⊎◌, ℕ, ◌+◌, ◌≤◌, false, List, [], Err, IfOk, IfErr, OnOk};
 ghost use Rattle.gx_lexer.specs.Feeding.{piece_of};
+ghost use Rattle.gx_chain.specs.Chains.{IsSound};
 ghost use Rattle.gx_pages.specs.Pages.{HasCause};
 ghost use Rattle.gx_model.specs.Turns.{Session, TurnCosts};
 ghost use Rattle.gx_engine.specs.Engines.{IsIn, Executed, Stopped, Unmade, reply_of, checkpoint_reply};
@@ -38,8 +39,8 @@ pub trait Execute {
         ensures cause { IfErr result (HasCause (P.faults store.old) (P.faults store.new)
             (λ at expected found. P.tells → (session : Session) → IsIn P.Pages store.old kind.old session → ⊥) (λ _. ⊥) (Unit {0})) }
 
-        // How many heap pages were fetched.
-        ensures least { P.heap_fetches store.new + steps.old ≤ P.heap_fetches store.old + steps.new }
+        // At least as many steps as heap pages were fetched, but where the pages are broken.
+        ensures least { IsSound result → P.heap_fetches store.new + steps.old ≤ P.heap_fetches store.old + steps.new }
         ensures most { P.tells → (session : Session) (text : List ℕ) → IsIn P.Pages store.old kind.old session → piece_of text ≡ piece.now → (n : ℕ) → TurnCosts session text n → steps.new ≤ steps.old + n }
 
         // A piece without a reply, and CHECKPOINT, which is accepted outside a block alone, don't call the store.

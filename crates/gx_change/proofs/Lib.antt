@@ -1,0 +1,7 @@
+pub mod Frame
+pub mod Refused
+pub mod Changed
+mod Names
+mod NewRows
+mod Indexes
+mod Effects

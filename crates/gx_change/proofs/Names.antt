@@ -1,0 +1,101 @@
+-- Names that differ, said in the model's way and in the catalog's; the table that CREATE TABLE makes.
+use Rattle.std.proofs.Common.{◌≡◌, ◌≢◌, inl, inr, ℕ, ◌<◌, ◌≤◌, nat_le, nat_lt, Bool, true, false, ◌||◌, List, [], ◌∷◌, ◌++◌, length, map, codes, None, refl, sym, ◌∙◌, ap, subst, arith}
+use Rattle.std.specs.Prelude.{bytes_eq, is_some}
+use Rattle.std.specs.List.{AllByRecursion, list_any}
+use Rattle.std.proofs.lemmas.Bool.Decides.{nat_tests}
+use Rattle.std.proofs.lemmas.Slice.Eq.{bytes_eq-Decides}
+use Rattle.gx_value.specs.declared.fields.Column.{Column}
+use Rattle.gx_parse.specs.declared.statement.ColumnWord.{ColumnWord}
+use Rattle.gx_parse.specs.Said.{Said, CreateTable}
+use Rattle.gx_parse.specs.Sound.{IsName, IsSound}
+use Rattle.gx_catalog.specs.declared.info.TableInfo.{TableInfo}
+use Rattle.gx_catalog.specs.Validity as catalogs
+use Rattle.gx_model.specs.Checks.{Find}
+use Rattle.gx_model.specs.Database as model
+use Rattle.gx_model.specs.Database.{Database, IsShort, IsValid, empty}
+use Rattle.gx_model.specs.Faults.{checks, new_column_checks}
+use Rattle.gx_model.specs.Steps.{HasShortNames, Stepped, Steps, done, new_table, with_new_table}
+use Rattle.gx_database.proofs.Empty.{empty_stands}
+
+or_false : (a b : Bool) → (a || b) ≡ false → (a ≡ false) × (b ≡ false)
+or_false true b same = cc
+or_false false b same = (refl, same)
+
+not_or : (a b : Bool) → a ≡ false → b ≡ false → (a || b) ≡ false
+not_or true b x y = cc
+not_or false b x y = y
+
+is_false : (b : Bool) → (b ≡ true → ⊥) → b ≡ false
+is_false true never = absurd (never refl)
+is_false false never = refl
+
+none_among : (name : List ℕ) (names : List (List ℕ)) → AllByRecursion (λ other. other ≢ name) names → list_any (bytes_eq name) names ≡ false
+none_among name [] differ = refl
+none_among name (other ∷ names) differ =
+    not_or (bytes_eq name other) (list_any (bytes_eq name) names) (is_false (bytes_eq name other) (λ yes. differ.0 (sym ((bytes_eq-Decides name other).0 yes)))) (none_among name names differ.1)
+
+all_differ : (name : List ℕ) (names : List (List ℕ)) → list_any (bytes_eq name) names ≡ false → AllByRecursion (λ other. other ≢ name) names
+all_differ name [] none = tt
+all_differ name (other ∷ names) none =
+    let parts = or_false (bytes_eq name other) (list_any (bytes_eq name) names) none in
+    ((λ same. let yes : bytes_eq name other ≡ true = (bytes_eq-Decides name other).1 (sym same) in let never : true ≡ false = sym yes ∙ parts.0 in absurd (apart never)), all_differ name names parts.1)
+  where
+    apart : true ≡ false → ⊥
+    apart e = cc
+
+pub to_model : (names : List (List ℕ)) → catalogs.AreDistinct names → model.AreDistinct names
+to_model [] distinct = tt
+to_model (name ∷ names) distinct = (none_among name names distinct.0, to_model names distinct.1)
+
+pub to_catalog : (names : List (List ℕ)) → model.AreDistinct names → catalogs.AreDistinct names
+to_catalog [] distinct = tt
+to_catalog (name ∷ names) distinct = (all_differ name names distinct.0, to_catalog names distinct.1)
+
+-- it is so of one of these
+pub all_among : {X : Type 0} (Q : X → Type 0) (xs : List X) (x : X) → AllByRecursion Q xs → catalogs.IsAmong x xs → Q x
+all_among Q [] x all among = absurd among
+all_among Q (y ∷ ys) x all (inl same) = subst Q same all.0
+all_among Q (y ∷ ys) x all (inr later) = all_among Q ys x all.1 later
+
+short_names : (columns : List ColumnWord) → AllByRecursion (λ (c : ColumnWord). IsName c.name) columns → AllByRecursion IsShort (map (λ (c : ColumnWord). c.name) columns)
+short_names [] all = tt
+short_names (c ∷ columns) all = (all.0.most, short_names columns all.1)
+
+pub has_short_names : (name : List ℕ) (columns : List ColumnWord) → IsSound (CreateTable name columns) → HasShortNames (CreateTable name columns)
+has_short_names name columns sound = (sound.names.0.most, short_names columns sound.names.1)
+
+-- every step of a valid database leaves a valid one
+abbrev pub StaysValid : Type 0
+StaysValid = (db : Database) (said : Said) (stepped : Stepped) → IsValid db → HasShortNames said → Steps db said stepped → IsValid stepped.database
+
+pub few_columns : (n : ℕ) → n ≤ 32 → nat_lt 32 n ≡ false
+few_columns n few = grind (arith, nat_tests)
+
+-- the table that is made is one of a database
+pub made_table : StaysValid → (name : List ℕ) (columns : List ColumnWord) → IsSound (CreateTable name columns) → length columns ≤ 32 → Find (new_column_checks [] columns) None
+    → model.IsTable (new_table name columns)
+made_table stays name columns sound few none =
+    let after : Stepped = done (with_new_table empty name columns) (codes "CREATE TABLE") in
+    let steps : Steps empty (CreateTable name columns) after = inr ((inl (refl, inl (few_columns (length columns) few, none))), refl) in
+    (stays empty (CreateTable name columns) after empty_stands.valid (has_short_names name columns sound) steps).tables.0
+
+named_all : (columns : List Column) → AllByRecursion IsShort (map (λ (c : Column). c.name) columns) → AllByRecursion (λ (c : Column). catalogs.IsName c.name) columns
+named_all [] all = tt
+named_all (c ∷ columns) all = (all.0, named_all columns all.1)
+
+-- a new table of the catalog is one of a catalog
+pub made_info : (info : TableInfo) (t : model.Table) → model.IsTable t → info.name ≡ t.name → info.columns ≡ t.columns → info.heap.next ≡ 1 → catalogs.IsTable info
+made_info info t is name columns next = record {
+  name = subst (λ (n : List ℕ). catalogs.IsName n) (sym name) is.short;
+  columns = subst (λ (cs : List Column). catalogs.AreColumns cs) (sym columns)
+      (record { few = is.few; named = named_all t.columns is.short_columns; distinct = to_catalog (map (λ (c : Column). c.name) t.columns) is.columns });
+  heap = record { some = omega (arith, next); most = omega (arith, next) };
+}
+
+-- there is room for one more table, and the columns aren't too many
+pub room_left : (tables columns : ℕ) → (nat_le 256 tables || nat_lt 32 columns) ≡ false → (tables < 256) × (columns ≤ 32)
+room_left tables columns few =
+    let parts = or_false (nat_le 256 tables) (nat_lt 32 columns) few in
+    let first = parts.0 in
+    let second = parts.1 in
+    (grind (arith, nat_tests), grind (arith, nat_tests))

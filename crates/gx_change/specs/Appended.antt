@@ -1,0 +1,9 @@
+-- Rows that are appended to a heap.
+use Rattle.std.specs.Prelude.{◌≡◌, ℕ, suc, List, [], ◌∷◌}
+use Rattle.gx_heap.specs.Heaps.{Row}
+
+-- these rows have these bytes, and the numbers from n on
+abbrev pub AreNumbered : ℕ → List (List ℕ) → List Row → Type 0
+AreNumbered n [] rows = rows ≡ []
+AreNumbered n (bytes ∷ more) (row ∷ rows) = (row.0.number ≡ n) × (row.1 ≡ bytes) × AreNumbered (suc n) more rows
+AreNumbered n (bytes ∷ more) [] = ⊥

@@ -1,0 +1,97 @@
+//! INSERT.
+
+ghost use Rattle.std.specs.Prelude.{◌≡◌, ℕ, ◌+◌, ◌^◌, ◌<◌, ◌≤◌, List, ◌++◌, length, option_copied, IfOk, IfErr, OnOk};
+ghost use Rattle.std.specs.List.{AllByRecursion};
+ghost use Rattle.gx_pages.specs.Footprints.{KeepsPages, StaysQuiet};
+ghost use Rattle.gx_pages.specs.Pages.{HasCause};
+ghost use Rattle.gx_chain.specs.Chains.{IsSound as IsUnbroken};
+ghost use Rattle.gx_heap.specs.Heaps.{HoldsHeap, HoldsNoHeap, Row};
+ghost use Rattle.gx_database.specs.Standing.{StandsFor};
+ghost use Rattle.gx_engine.specs.Engines.{reply_of};
+ghost use Rattle.gx_model.specs.Database.{Database};
+ghost use Rattle.gx_model.specs.Steps.{Costs};
+ghost use Rattle.gx_parse.specs.Said.{Insert};
+ghost use Rattle.gx_parse.specs.Sound.{IsSound};
+ghost use Rattle.gx_step.specs.Doing.{Done, IsOrdinary, LacksRoom};
+ghost use Rattle.gx_change.specs.Appended.{AreNumbered};
+
+use crate::opening::load;
+use gx_bytes::Bytes;
+use gx_engine::Reply;
+use gx_heap::Heap;
+use gx_model::Refusal;
+use gx_pages::{PageError, Pages, Steps};
+use gx_parse::{GivenRows, Names};
+use gx_step::{counted, refused};
+use gx_target::row_bytes;
+use std::alloc::Global;
+use std::sync::ledger::Ledger;
+
+/// INSERT: rows behind the others. All are read before the first is appended.
+pub fn insert<P: Pages, L: Ledger>(
+    alloc: Global,
+    pages: &mut P,
+    table: &[u8],
+    listed: Option<&Names>,
+    rows: &GivenRows,
+    steps: &mut Steps<L>,
+) -> Result<Reply, PageError>
+    requires { IsSound (Insert table.now (option_copied listed) rows.now) }
+    ensures done { IfOk result (λ reply. P.tells → (db : Database) → StandsFor (P.map pages.old) db
+        → Done P.Pages pages.old pages.new (Insert table.now (option_copied listed.entry) rows.now) db (reply_of reply)) }
+    ensures ordinary { IfOk result (λ reply. IsOrdinary (reply_of reply)) }
+    ensures cause { IfErr result (HasCause (P.faults pages.old) (P.faults pages.new)
+        (λ at expected found. P.tells → (db : Database) → StandsFor (P.map pages.old) db → ⊥)
+        (λ count. P.tells → (db : Database) → StandsFor (P.map pages.old) db → LacksRoom (P.count pages.old) (Insert table.now (option_copied listed.entry) rows.now) db) (Unit {0})) }
+    ensures least { IsUnbroken result → P.heap_fetches pages.new + steps.old ≤ P.heap_fetches pages.old + steps.new }
+    ensures most { P.tells → (db : Database) → StandsFor (P.map pages.old) db → (n : ℕ) → Costs db (Insert table.now (option_copied listed.entry) rows.now) n → steps.new ≤ steps.old + n }
+    ensures quiet { StaysQuiet P.Pages pages.old pages.new }
+{
+    gx_step::tables_are_found();
+    gx_catalog::found_among();
+    gx_model::stays_valid();
+    let mut catalog = load(alloc, pages)?;
+    let Some(info) = catalog.table(table) else {
+        return refused(alloc, 2);
+    };
+    let number = info.number;
+    let mut heap = info.heap;
+    let columns = info.columns.as_slice();
+    match row_bytes(alloc, columns, listed, heap.next, rows.as_slice()) {
+        Ok(bytes) => {
+            append_rows(alloc, pages, &mut heap, bytes.as_slice(), steps)?;
+            catalog.set_heap(alloc, pages, number, heap)?;
+            counted(Bytes::new(alloc), "INSERT 0 ", rows.len() as u64)
+        }
+        Err(Refusal::Fault { number }) => refused(alloc, number),
+        Err(Refusal::Memory) => Err(PageError::Memory),
+    }
+}
+
+/// Appends rows to a heap, in order.
+fn append_rows<P: Pages, L: Ledger>(
+    alloc: Global,
+    pages: &mut P,
+    heap: &mut Heap,
+    rows: &[Bytes],
+    steps: &mut Steps<L>,
+) -> Result<(), PageError>
+    requires short { AllByRecursion (λ row. length row ≤ 7900) rows.now }
+    requires room { heap.old.next + length rows.now ≤ 2 ^ 48 }
+    ensures added { OnOk result (P.tells → (stored : List Row) (feet free : List ℕ) → HoldsHeap P.Pages pages.old heap.old stored feet free
+        → (more : List Row) × (later : List ℕ) × (rest : List ℕ) × HoldsHeap P.Pages pages.new heap.new (stored ++ more) later rest
+        × KeepsPages P.Pages pages.old pages.new feet free later rest × AreNumbered heap.old.next rows.now more) }
+    ensures next { OnOk result (heap.new.next ≡ heap.old.next + length rows.now) }
+    ensures by_each { P.count pages.new ≤ P.count pages.old + length rows.now }
+    ensures cause { IfErr result (HasCause (P.faults pages.old) (P.faults pages.new)
+        (λ at expected found. P.tells → HoldsNoHeap P.Pages pages.old heap.old)
+        (λ count. (0 < length rows.now) × (2 ^ 50 ≤ P.count pages.old + length rows.now)) (Unit {0})) }
+    ensures ticks { P.heap_fetches pages.new + steps.old ≤ P.heap_fetches pages.old + steps.new }
+    ensures most { steps.new ≤ steps.old + length rows.now }
+    ensures quiet { StaysQuiet P.Pages pages.old pages.new }
+{
+    for row in rows {
+        heap.append(alloc, pages, row.as_slice(), steps)?;
+    }
+    Ok(())
+}

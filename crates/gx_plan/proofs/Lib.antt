@@ -1,0 +1,5 @@
+mod BindingLemmas
+mod FindingLemmas
+mod OperandLemmas
+mod TruthLemmas
+mod WordLemmas

@@ -1,0 +1,11 @@
+mod Deleting
+mod Feet
+mod Found
+mod Lists
+mod Looking
+mod Standing
+mod Steps
+mod Stored
+mod Deleted
+mod Gone
+mod Rising

@@ -1,0 +1,5 @@
+pub mod Answers
+pub mod Seen
+pub mod Tables
+pub mod Visitors
+pub mod Walks

@@ -1,0 +1,6 @@
+mod Results
+mod Times
+mod Moving
+mod Turning
+mod Works
+mod Pieces

@@ -1,0 +1,11 @@
+use Rattle.std.proofs.Common.{refl}
+use Rattle.gx_model.specs.Turns.{session_over}
+use Rattle.gx_engine.specs.declared.engine.Kind.TheVariants.{Idle}
+use Rattle.gx_session.proofs.Moving as moving
+use Rattle.gx_session.proofs.units.roll_back.Goals as goal
+
+pub returns-clause-moved : goal.returns-clause-moved
+returns-clause-moved g c = λ tells session keeps.
+    let a = c.abandon.ensures in
+    moving.given_up g.P.Pages c.args.store.now c.abandon.new.self c.args.kind.now Idle session (session_over session.committed) keeps refl refl refl
+    (a.map tells) a.count (a.committed.0 tells) a.committed.1 (record { left = a.images; time = a.time })

@@ -1,0 +1,21 @@
+-- Statements that do nothing to the pages.
+use Rattle.std.proofs.Common.{◌≡◌, ℕ, ◌+◌, ◌≤◌, Result, Ok, Err, IfOk, sym, subst, arith}
+use Rattle.gx_pages.specs.declared.store.Pages.{Ghosts}
+use Rattle.gx_database.specs.Standing.{StandsFor}
+use Rattle.gx_model.specs.Database.{Database}
+use Rattle.gx_model.specs.Replies.{Reply}
+use Rattle.gx_model.specs.Steps.{Stepped, Steps}
+use Rattle.gx_parse.specs.Said.{Said}
+use Rattle.gx_step.specs.Doing.{Done}
+
+-- the pages stay, and stand for the same database
+pub done_still : {P : Type 0} (g : Ghosts P) (s : P) (said same : Said) (db : Database) (answer reply : Reply) → said ≡ same → Steps db same (record { database = db; reply = answer }) → answer ≡ reply
+    → StandsFor (g.map s) db → Done g s s said db reply
+done_still g s said same db answer reply e steps answered stands =
+    let stepped : Stepped = record { database = db; reply = answer } in
+    let At : Said → Type 0 = λ x. Steps db x stepped in
+    record { stepped = stepped; steps = subst At (sym e) steps; answered = answered; stands = stands; grows = omega arith }
+
+pub if_ok_then : {T E : Type 0} (result : Result T E) (P Q : T → Type 0) → ((x : T) → P x → Q x) → IfOk result P → IfOk result Q
+if_ok_then (Ok value) P Q f p = f value p
+if_ok_then (Err error) P Q f p = tt

@@ -1,0 +1,10 @@
+use Rattle.std.proofs.Common.{◌≡◌, ◌++◌, sym, ap, subst, List, ℕ}
+use Rattle.std.specs.Fmt.{decimal}
+use Rattle.gx_model.specs.Replies.{Reply, accepted, line}
+use Rattle.gx_step.specs.Doing.{IsOrdinary}
+use Rattle.gx_step.proofs.Ordinary as ordinary
+use Rattle.gx_step.proofs.reply.counted.Goals as goal
+
+-- src/reply.rt:54:1
+pub returns-clause-ordinary : goal.returns-clause-ordinary
+returns-clause-ordinary c = λ h. subst (λ (b : List ℕ). IsOrdinary (accepted b)) (sym c.in_ok-bytes.ensures.bytes) (ordinary.counted c.args.lines c.args.word.now c.args.count h)

@@ -1,0 +1,7 @@
+use Rattle.std.proofs.Common.{◌≡◌, take}
+use Rattle.std.specs.List.{flat_map}
+use Rattle.gx_model.specs.Replies.{escaped_byte}
+use Rattle.gx_target.proofs.line.is_plain.Given as goal
+
+abbrev pub invariant-loop-byte : goal.invariant-loop-byte
+invariant-loop-byte l = flat_map escaped_byte (take l.byte-index l.text) ≡ take l.byte-index l.text
