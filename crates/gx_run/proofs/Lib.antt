@@ -1,7 +1,11 @@
-pub mod CutFacts
-pub mod DiskFacts
-pub mod PieceFacts
+pub mod PageFacts
+pub mod RunFacts
+pub mod DeskFacts
+pub mod TextFacts
 pub mod FrontFacts
+pub mod ScriptFacts
+pub mod TopFacts
+pub mod OpenFacts
 pub mod WordFacts
-pub mod LimitFacts
-pub mod CutLaw
+pub mod ProgramFacts
+pub mod TryFacts

@@ -1,6 +1,11 @@
-pub mod Answers
-pub mod Cut
-pub mod Disk
-pub mod Parts
-pub mod Replies
+pub mod Headline
+pub mod Replied
+pub mod Moves
+pub mod Scripts
+pub mod Top
+pub mod Try
+pub mod Lines
+pub mod Inits
 pub mod Words
+pub mod Statuses
+pub mod Outcomes

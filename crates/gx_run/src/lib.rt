@@ -1,12 +1,19 @@
-//! The run of a script: from the bytes of a source to the bytes that a host is answered.
+//! The run of a script on a database: from the bytes of a source to the bytes that a host is answered.
 #![tactic(auto)]
 
-mod cut;
-mod law;
+mod attempt;
+mod desk;
+mod fatal;
+mod file;
+mod halt;
+mod init;
+mod memory;
 mod pieces;
+mod program;
+mod script;
 mod stop;
-mod take;
 mod top;
+mod words;
 
-pub use law::one_cut;
-pub use top::run;
+pub use program::run;
+pub use words::Command;

@@ -1,109 +1,165 @@
-//! The execution of a script's statements, each answered before the next is executed.
+//! The loop over the pieces of a script.
 
-ghost use Rattle.std.specs.Prelude.{◌≡◌, ℕ, ◌+◌, ◌≤◌, ◌<◌, ◌++◌, [], ◌||◌, length, IfOk, OnOk, OnErr, is_some};
-ghost use Rattle.std.specs.Result.{IsErrOf};
-ghost use Rattle.gx_words.specs.Causes.{Rose};
-ghost use Rattle.gx_exec.specs.Step.{step};
-ghost use Rattle.gx_run.specs.Answers.{AnswersSome, AddsFront};
-ghost use Rattle.gx_run.specs.Cut.{cut, executed};
-ghost use Rattle.gx_run.specs.Disk.{IsDiskKept};
-ghost use Rattle.gx_run.specs.Replies.{replies, database_after, text_of, any_refused};
+ghost use Rattle.std.specs.Prelude.{◌≡◌, ◌≢◌, ◌⊎◌, ◌↔◌, ℕ, ◌≤◌, ◌+◌, Bool, true, List, [], ◌∷◌, ◌++◌, ◌||◌, length, take, map, IfOk, OnOk, OnErr, IsTrue, Err};
+ghost use Rattle.gx_words.specs.Causes.{Rose, FailsWith};
+ghost use Rattle.gx_words.specs.PageMap.{PageMap};
+ghost use Rattle.gx_lexer.specs.Feeding.{piece_of};
+ghost use Rattle.gx_engine.specs.Times.{Between};
+ghost use Rattle.gx_database.specs.Standing.{StandsFor};
+ghost use Rattle.gx_model.specs.Turns.{TurnCosts};
+ghost use Rattle.gx_model.specs.Runs.{State, Done, Does, AreDone, committed_after};
+ghost use Rattle.gx_engine.specs.Engines.{reply_of, checkpoint_reply};
+ghost use Rattle.gx_run.specs.Moves.{OneOf, Ran};
 
-use crate::cut::first_piece;
+use crate::desk::Desk;
 use crate::stop::Stop;
-use gx_disk::Host;
-use gx_exec::Engine;
+use gx_engine::{Execute, Reply};
+use gx_io::Failed;
+use gx_lexer::Piece;
 use gx_pages::Steps;
-use std::alloc::Global;
 use std::sync::ledger::Ledger;
 
-/// Executes the statements of a script on the empty database, and answers each reply. Where the script isn't
-/// whole, its rest is no statement. Tells whether a statement was refused.
-pub fn run_script<H: Host, L: Ledger>(
-    alloc: Global,
-    script: &[u8],
-    whole: bool,
-    host: &mut H,
+/// Executes the pieces, and answers each reply by one call before the next piece. Tells whether one was refused.
+pub fn run_pieces<E: Execute, D: Desk, L: Ledger>(
+    desk: &mut D,
+    pieces: &[Piece],
     steps: &mut Steps<L>,
 ) -> Result<bool, Stop>
-    ensures answered { OnOk result (H.tells → (H.said host.new).bytes ≡ (H.said host.old).bytes ++ text_of (replies [] (executed whole script.now))) }
-    ensures refused { IfOk result (λ refused. refused ≡ any_refused (replies [] (executed whole script.now))) }
-    ensures memory { IsErrOf result Stop.Memory → H.tells → AnswersSome (H.said host.old).bytes (H.said host.new).bytes (replies [] (executed whole script.now)) }
-    ensures answer { IsErrOf result Stop.Answer → H.tells → AddsFront (H.said host.old).bytes (H.said host.new).bytes (text_of (replies [] (executed whole script.now))) }
-    ensures rose { IsErrOf result Stop.Answer → Rose (H.said host.old).faults (H.said host.new).faults }
-    ensures counted { (H.said host.old).faults ≤ (H.said host.new).faults }
-    ensures disk { IsDiskKept (H.told host.old) (H.told host.new) (H.faults host.old) (H.faults host.new) (H.now_may_leave host.old) (H.now_may_leave host.new) }
-    ensures steps { steps.new ≡ steps.old }
-{
-    let Ok(mut engine) = Engine::empty(alloc) else {
-        return Err(Stop::Memory);
-    };
-    let (refused, rest) = answer_pieces(alloc, &mut engine, script, host, steps)?;
-    if !whole {
-        return Ok(refused);
-    }
-    let one = answer_piece(alloc, &mut engine, rest, host, steps)?;
-    Ok(either(refused, one))
-}
-
-/// Executes the pieces that a `;` ends. Tells whether one was refused, and gives the rest.
-fn answer_pieces<'a, H: Host, L: Ledger>(
-    alloc: Global,
-    engine: &mut Engine,
-    script: &'a [u8],
-    host: &mut H,
-    steps: &mut Steps<L>,
-) -> Result<(bool, &'a [u8]), Stop>
-    ensures database { OnOk result (engine.new ≡ database_after engine.old (cut script.now).pieces) }
-    ensures rest { IfOk result (λ x. x.1.now ≡ (cut script.now).rest) }
-    ensures answered { OnOk result (H.tells → (H.said host.new).bytes ≡ (H.said host.old).bytes ++ text_of (replies engine.old (cut script.now).pieces)) }
-    ensures refused { IfOk result (λ x. x.0 ≡ any_refused (replies engine.old (cut script.now).pieces)) }
-    ensures memory { IsErrOf result Stop.Memory → H.tells → AnswersSome (H.said host.old).bytes (H.said host.new).bytes (replies engine.old (cut script.now).pieces) }
-    ensures answer { IsErrOf result Stop.Answer → H.tells → AddsFront (H.said host.old).bytes (H.said host.new).bytes (text_of (replies engine.old (cut script.now).pieces)) }
-    ensures rose { IsErrOf result Stop.Answer → Rose (H.said host.old).faults (H.said host.new).faults }
-    ensures counted { (H.said host.old).faults ≤ (H.said host.new).faults }
-    ensures disk { IsDiskKept (H.told host.old) (H.told host.new) (H.faults host.old) (H.faults host.new) (H.now_may_leave host.old) (H.now_may_leave host.new) }
-    ensures steps { steps.new ≡ steps.old }
+    requires { D.ready desk.old }
+    ensures headline { D.tells → (from : State) (texts : List (List ℕ)) → D.is_at desk.old from → map piece_of texts ≡ pieces.now
+        → Ran D.moment D.may_have_left_since D.may_leave D.said D.is_at D.emptied steps.old steps.new desk.old desk.new from texts result }
+    ensures ready { OnOk result (D.ready desk.new) }
+    ensures follows { D.follows desk.old desk.new }
+    ensures rose { result ≡ Err Stop.Disk → D.on_disk × Rose (D.disk_faults desk.old) (D.disk_faults desk.new) }
+    ensures answer_rose { result ≡ Err Stop.Answer → Rose (D.said desk.old).faults (D.said desk.new).faults }
+    ensures broken { (page expected found : ℕ) → result ≡ Err (Stop.Broken page expected found) → expected ≢ found }
+    ensures counted { (D.disk_faults desk.old ≤ D.disk_faults desk.new) × ((D.said desk.old).faults ≤ (D.said desk.new).faults) }
 {
     let mut refused = false;
-    let mut rest = script;
-    while let Some((piece, after)) = first_piece(rest) {
-        let one = answer_piece(alloc, engine, piece, host, steps)?;
+    let mut rest = pieces;
+    while let Some((piece, after)) = rest.split_first() {
+        let one = run_piece::<E, _, _>(desk, piece, steps)?;
         refused = either(refused, one);
         rest = after;
     }
-    Ok((refused, rest))
+    Ok(refused)
 }
 
-/// Executes one piece, and answers its reply by one call where it has one. Tells whether it was refused.
-fn answer_piece<H: Host, L: Ledger>(
-    alloc: Global,
-    engine: &mut Engine,
-    piece: &[u8],
-    host: &mut H,
+// Executes a piece, and answers its reply where it has one. Tells whether it was refused.
+fn run_piece<E: Execute, D: Desk, L: Ledger>(
+    desk: &mut D,
+    piece: &Piece,
     steps: &mut Steps<L>,
 ) -> Result<bool, Stop>
-    ensures database { OnOk result (engine.new ≡ (step engine.old piece.now).database) }
-    ensures answered { OnOk result (H.tells → (H.said host.new).bytes ≡ (H.said host.old).bytes ++ (step engine.old piece.now).reply.bytes) }
-    ensures refused { IfOk result (λ refused. refused ≡ is_some (step engine.old piece.now).reply.fault) }
-    ensures memory { IsErrOf result Stop.Memory → H.tells → (H.said host.new).bytes ≡ (H.said host.old).bytes }
-    ensures answer { IsErrOf result Stop.Answer → H.tells → AddsFront (H.said host.old).bytes (H.said host.new).bytes (step engine.old piece.now).reply.bytes }
-    ensures rose { IsErrOf result Stop.Answer → Rose (H.said host.old).faults (H.said host.new).faults }
-    ensures counted { (H.said host.old).faults ≤ (H.said host.new).faults }
-    ensures disk { IsDiskKept (H.told host.old) (H.told host.new) (H.faults host.old) (H.faults host.new) (H.now_may_leave host.old) (H.now_may_leave host.new) }
-    ensures steps { steps.new ≡ steps.old }
+    requires { D.ready desk.old }
+    ensures headline { D.tells → (from : State) (text : List ℕ) → D.is_at desk.old from → piece_of text ≡ piece.now
+        → Ran D.moment D.may_have_left_since D.may_leave D.said D.is_at D.emptied steps.old steps.new desk.old desk.new from (text ∷ []) result }
+    ensures ready { OnOk result (D.ready desk.new) }
+    ensures follows { D.follows desk.old desk.new }
+    ensures rose { result ≡ Err Stop.Disk → D.on_disk × Rose (D.disk_faults desk.old) (D.disk_faults desk.new) }
+    ensures answer_rose { result ≡ Err Stop.Answer → Rose (D.said desk.old).faults (D.said desk.new).faults }
+    ensures broken { (page expected found : ℕ) → result ≡ Err (Stop.Broken page expected found) → expected ≢ found }
+    ensures counted { (D.disk_faults desk.old ≤ D.disk_faults desk.new) × ((D.said desk.old).faults ≤ (D.said desk.new).faults) }
 {
-    let Ok(reply) = engine.execute(alloc, piece, steps) else {
-        return Err(Stop::Memory);
+    match desk.settle(false) {
+        Ok(()) => (),
+        Err(_) => return Err(Stop::Disk),
+    }
+    let reply = match execute_piece::<E, _, _>(desk, piece, steps) {
+        Ok(reply) => reply,
+        Err(Stop::Disk) => return Err(Stop::Disk),
+        Err(Stop::Memory) => return Err(Stop::Memory),
+        Err(
+            Stop::Broken {
+                page,
+                expected,
+                found,
+            },
+        ) => {
+            return Err(Stop::Broken {
+                page,
+                expected,
+                found,
+            });
+        }
+        Err(Stop::Answer) => unreachable!(),
     };
     let bytes = reply.bytes.as_slice();
-    if !bytes.is_empty() && host.answer(bytes).is_err() {
-        return Err(Stop::Answer);
+    if bytes.is_empty() {
+        return Ok(reply.fault.is_some());
     }
-    Ok(reply.fault.is_some())
+    match desk.answer(bytes) {
+        Ok(()) => Ok(reply.fault.is_some()),
+        Err(_) => Err(Stop::Answer),
+    }
 }
 
-fn either(one: bool, other: bool) -> bool
+// Executes a piece, and makes a checkpoint where it is CHECKPOINT and was accepted.
+fn execute_piece<E: Execute, D: Desk, L: Ledger>(
+    desk: &mut D,
+    piece: &Piece,
+    steps: &mut Steps<L>,
+) -> Result<Reply, Stop>
+    requires { D.ready desk.old }
+    ensures done { IfOk result (λ reply. D.tells → (from : State) (text : List ℕ) → D.is_at desk.old from → piece_of text ≡ piece.now
+        → (one : Done) × Does from text one × (reply_of reply ≡ one.reply) × D.is_at desk.new one.after
+        × Between D.moment D.may_have_left_since desk.old desk.new (OneOf from.session.committed one.after.session.committed (D.said desk.old).bytes)) }
+    ensures disk { result ≡ Err Stop.Disk → D.tells → (from : State) (text : List ℕ) → D.is_at desk.old from → piece_of text ≡ piece.now
+        → (ones : List Done) × AreDone from (text ∷ []) ones
+        × ((map : PageMap) → D.may_leave desk.new map → StandsFor map from.session.committed ⊎ StandsFor map (committed_after from ones))
+        × Between D.moment D.may_have_left_since desk.old desk.new (OneOf from.session.committed (committed_after from ones) (D.said desk.old).bytes) }
+    ensures memory { result ≡ Err Stop.Memory → D.tells → (from : State) → D.is_at desk.old from
+        → ((map : PageMap) → D.may_leave desk.new map → StandsFor map from.session.committed)
+        × Between D.moment D.may_have_left_since desk.old desk.new (OneOf from.session.committed from.session.committed (D.said desk.old).bytes) }
+    ensures broken { (page expected found : ℕ) → result ≡ Err (Stop.Broken page expected found) → (expected ≢ found) × (D.tells → (from : State) → D.is_at desk.old from → ⊥) }
+    ensures no_answer { result ≡ Err Stop.Answer → ⊥ }
+    ensures cost { D.tells → (from : State) (text : List ℕ) → D.is_at desk.old from → piece_of text ≡ piece.now → (n : ℕ) → TurnCosts from.session text n → steps.new ≤ steps.old + n }
+    ensures silent { IfOk result (λ reply. reply.bytes ≡ [] → D.tells → D.emptied desk.old → D.emptied desk.new) }
+    ensures checkpoint { IfOk result (λ reply. reply.bytes ≡ checkpoint_reply → D.tells → D.emptied desk.new) }
+    ensures ready { OnOk result (D.ready desk.new) }
+    ensures said { D.said desk.new ≡ D.said desk.old }
+    ensures follows { D.follows desk.old desk.new }
+    ensures faults { D.disk_faults desk.old ≤ D.disk_faults desk.new }
+    ensures rose { result ≡ Err Stop.Disk → D.on_disk × Rose (D.disk_faults desk.old) (D.disk_faults desk.new) }
+{
+    let reply = match desk.execute::<E, _>(piece, steps) {
+        Ok(reply) => reply,
+        Err(stop) => return Err(stop),
+    };
+    match settle_after(desk, &reply) {
+        Ok(()) => Ok(reply),
+        Err(_) => Err(Stop::Disk),
+    }
+}
+
+// Makes a checkpoint behind the reply to CHECKPOINT.
+fn settle_after<D: Desk>(desk: &mut D, reply: &Reply) -> Result<(), Failed>
+    requires { D.ready desk.old }
+    ensures at { OnOk result (D.tells → (from : State) → D.is_at desk.old from → D.is_at desk.new from) }
+    ensures left { D.tells → (from : State) → D.is_at desk.old from → ((map : PageMap) → D.may_leave desk.new map → StandsFor map from.session.committed)
+        × Between D.moment D.may_have_left_since desk.old desk.new (OneOf from.session.committed from.session.committed (D.said desk.old).bytes) }
+    ensures emptied { OnOk result (D.tells → reply.now.bytes ≡ checkpoint_reply → D.idle desk.old → D.emptied desk.new) }
+    ensures kept { OnOk result (D.tells → D.emptied desk.old → D.emptied desk.new) }
+    ensures ready { OnOk result (D.ready desk.new) }
+    ensures said { D.said desk.new ≡ D.said desk.old }
+    ensures follows { D.follows desk.old desk.new }
+    ensures on_disk { OnErr result D.on_disk }
+    ensures faults { FailsWith (D.disk_faults desk.old) (D.disk_faults desk.new) result }
+{
+    if is_checkpoint(reply) {
+        return desk.settle(true);
+    }
+    Ok(())
+}
+
+/// Whether this is the reply to CHECKPOINT.
+fn is_checkpoint(reply: &Reply) -> bool
+    ensures { IsTrue result ↔ (reply.now.bytes ≡ checkpoint_reply) }
+{
+    reply.bytes.as_slice() == b"CHECKPOINT\n".as_slice()
+}
+
+pub(crate) fn either(one: bool, other: bool) -> bool
     ensures { result ≡ (one || other) }
 {
     one || other

@@ -1,2 +1,0 @@
-pub mod LexemeFacts
-pub mod SayingFacts

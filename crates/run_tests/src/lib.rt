@@ -1,5 +1,0 @@
-//! Worked examples of the public calls of the run.
-#![tactic(auto)]
-
-#[cfg(test)]
-mod scripts;
