@@ -20,7 +20,7 @@ pub record Keeps {P : Type 0} (g : Ghosts P) (store : P) (kind : Kind) (session 
 abbrev pub MayCommit : {P : Type 0} → Ghosts P → P → P → Database → Type 0
 MayCommit g old new db = Between g.moment g.may_have_left_since old new (λ m. (g.may_leave old m.image ⊎ StandsFor m.image db) × (m.bytes ≡ (g.said old).bytes))
 
--- The store moved to where it stands for this session, with no page more.
+-- The store is now where it stands for the session, and has no page more.
 pub record Moved {P : Type 0} (g : Ghosts P) (old new : P) (kind : Kind) (session : Session) : Type 0 where
   pub is_in : IsIn g new kind session
   pub grows : (pages : ℕ) → HasAtMost g old pages → HasAtMost g new pages
