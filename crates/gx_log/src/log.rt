@@ -1,6 +1,6 @@
 //! The log.
 
-ghost use Rattle.std.specs.Prelude.{◌≡◌, ℕ, ◌+◌, ◌-◌, ◌*◌, ◌^◌, ◌<◌, ◌≤◌, [], ◌∷◌, ◌++◌, List, IfOk, IfErr, OnOk, OnErr, IsErr};
+ghost use Rattle.std.specs.Prelude.{◌≡◌, ℕ, ◌+◌, ◌-◌, ◌*◌, ◌^◌, ◌<◌, ◌≤◌, [], ◌∷◌, ◌++◌, List, Ok, IfOk, IfErr, OnOk, OnErr, IsErr};
 ghost use Rattle.std.specs.BTreeMap.{btree_map_len, get};
 ghost use Rattle.std.specs.Ordering.{nat_cmp};
 ghost use Rattle.gx_words.specs.Causes.{Rose};
@@ -118,6 +118,7 @@ impl Log {
         ensures none { OnOk result (D.tells → (records : List Record) → IsAtRest D.Disk self.old disk.old records → IsAtRest D.Disk self.new disk.new []) }
         ensures front { OnOk result (self.new ≡ 0) }
         ensures same { OnErr result (self.new ≡ self.old) }
+        ensures idle { self.old ≡ 0 → (disk.new ≡ disk.old) × (result ≡ Ok tt) }
 
         // At each moment a crash leaves all records, or none.
         ensures any_moment { D.tells → (records : List Record) → IsAtRest D.Disk self.old disk.old records

@@ -51,6 +51,15 @@ module _ {D : Type 0} (g : Ghosts D) (counts : CountsNow g) (only : OnlyNow g) (
       keeps = λ t m le past. (past.0, (past.1.0, goes.keeps t (record { image = past.1.0; bytes = m.bytes }) le past.1.1, past.1.2));
     }
 
+    pub ends_silent : Elapses (g.moment old) (g.moment new) (MapSince g old) (MapSince g new) (λ m. m.bytes ≡ (g.said old).bytes)
+    ends_silent = record {
+      later = goes.later;
+      nothing_else = λ t m le left.
+          ⊎_elim (λ past. inl (left.0, (left.1.0, past, left.1.2))) (λ here. inr (here.0.1, (λ u l. (left.0, (left.1.0, here.1 u l, left.1.2)))))
+          ((run left.0).each t (record { image = left.1.0; bytes = m.bytes }) le left.1.1);
+      keeps = λ t m le past. (past.0, (past.1.0, goes.keeps t (record { image = past.1.0; bytes = m.bytes }) le past.1.1, past.1.2));
+    }
+
     pub ends_images : (g.tells → IsFilled (cut count over_) (g.told old).pages) → (m : PageMap) → MapLeft g new m → MapLeft g old m
     ends_images filled m left =
         let s = sound left.0 in

@@ -1,5 +1,5 @@
 -- What changes of the layers make of the maps.
-use Rattle.std.proofs.Common.{◌≡◌, ℕ, ◌<◌, List, Option, Some, None, Box, is_some, true, refl, ◌∙◌, ap}
+use Rattle.std.proofs.Common.{◌≡◌, ℕ, ◌<◌, List, [], ◌∷◌, length, Option, Some, None, Box, is_some, true, refl, ◌∙◌, ap, arith}
 use Rattle.std.specs.declared.alloc.Global.{Global}
 use Rattle.std.specs.BTreeMap.{get}
 use Rattle.std.specs.Ordering.{nat_cmp}
@@ -8,9 +8,9 @@ use Rattle.gx_words.specs.PageMap.{PageMap, with_page}
 use Rattle.gx_log.specs.Records.{page_in}
 use Rattle.gx_pager.specs.Layers.{map_over, pieces}
 use Rattle.gx_pager.specs.Maps.{cut}
-use Rattle.gx_pager.specs.Memory.{memory, committed_memory, overlay, unit, now_map, committed_map, Keeps}
+use Rattle.gx_pager.specs.Memory.{memory, committed_memory, overlay, unit, changed, now_map, committed_map, Keeps}
 use Rattle.gx_pager.specs.declared.layers.Layers.{Layers}
-use Rattle.gx_pager.proofs.Maps.{committed_same, cut_written, written_over}
+use Rattle.gx_pager.proofs.Maps.{committed_same, cut_written, written_over, entries_same}
 
 pub put_map : (old new : Layers) (image : Image) (page : ℕ) (bytes : List ℕ) → memory new ≡ with_page (memory old) page bytes → new.count ≡ old.count → page < old.count
     → now_map new image ≡ with_page (now_map old image) page bytes
@@ -38,3 +38,13 @@ unit_taken layers n some = same (get nat_cmp layers.unit n) ∙ some
     same : (o : Option (Box (List ℕ) Global)) → is_some (page_in o) ≡ is_some o
     same None = refl
     same (Some page) = refl
+
+-- where no page is changed the map is the committed one
+pub unchanged_map : (layers : Layers) (image : Image) → changed layers ≡ 0 → layers.count ≡ layers.committed_count → now_map layers image ≡ committed_map layers image
+unchanged_map layers image none count =
+    ap (λ (k : ℕ). cut k (map_over (memory layers) (pieces image))) count
+    ∙ ap (λ (m : PageMap). cut layers.committed_count (map_over m (pieces image))) (entries_same layers.unit.entries [] (committed_memory layers) (no_entries layers.unit.entries none))
+  where
+    no_entries : (entries : List (ℕ × Box (List ℕ) Global)) → length entries ≡ 0 → entries ≡ []
+    no_entries [] none = refl
+    no_entries (entry ∷ entries) none = absurd (omega (arith, none))

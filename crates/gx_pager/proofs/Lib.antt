@@ -1,5 +1,6 @@
 mod Pieces
 mod Cached
+mod Lacking
 mod Headers
 mod Formatting
 mod Placing

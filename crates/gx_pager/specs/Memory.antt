@@ -1,6 +1,6 @@
 -- The pages that are in memory, and the maps that they make of an image.
 use Rattle.std.specs.Prelude.{◌≡◌, ℕ, List, true, is_some}
-use Rattle.std.specs.BTreeMap.{get}
+use Rattle.std.specs.BTreeMap.{get, btree_map_len}
 use Rattle.std.specs.Ordering.{nat_cmp}
 use Rattle.gx_words.specs.Image.{Image}
 use Rattle.gx_words.specs.PageMap.{PageMap}
@@ -15,6 +15,10 @@ overlay layers = λ n. shown (get nat_cmp layers.kept n)
 
 abbrev pub unit : Layers → PageMap
 unit layers = λ n. page_in (get nat_cmp layers.unit n)
+
+-- how many pages the unit has: those that were put, taken or given in it
+abbrev pub changed : Layers → ℕ
+changed layers = btree_map_len layers.unit
 
 abbrev pub committed_memory : Layers → PageMap
 committed_memory layers = committed_in layers.header (overlay layers)

@@ -1,8 +1,8 @@
 //! A cache of pages that were read.
 
-ghost use Rattle.std.specs.Prelude.{◌≡◌, ℕ, Some, IfOk, IsTrue};
+ghost use Rattle.std.specs.Prelude.{◌≡◌, ℕ, Some, None, IfOk, IsTrue, IsFalse};
 ghost use Rattle.gx_words.specs.PageMap.{PageMap};
-ghost use Rattle.gx_pager.specs.Cached.{Agrees};
+ghost use Rattle.gx_pager.specs.Cached.{Agrees, cached};
 
 use crate::copies::{boxed, copy};
 use gx_pages::Page;
@@ -34,6 +34,8 @@ impl Cache {
 
     /// Reads a page, and says whether it is there.
     pub fn get(&mut self, page: u64, into: &mut Page) -> bool
+        ensures found { IsTrue result → cached self.old.pages.entries page ≡ Some into.new }
+        ensures missed { IsFalse result → cached self.old.pages.entries page ≡ None }
         ensures hit { IsTrue result → (map : PageMap) → Agrees map self.old.pages.entries → map page ≡ Some into.new }
         ensures kept { (map : PageMap) → Agrees map self.old.pages.entries → Agrees map self.new.pages.entries }
     {

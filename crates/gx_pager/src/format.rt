@@ -5,6 +5,7 @@ ghost use Rattle.gx_words.specs.Causes.{Rose};
 ghost use Rattle.gx_words.specs.Image.{Image};
 ghost use Rattle.gx_disk.specs.Areas.{Settled};
 ghost use Rattle.gx_disk.specs.declared.area.Area.TheVariants.{Log};
+ghost use Rattle.gx_log.specs.Disks.{Leaves};
 ghost use Rattle.gx_log.specs.Records.{Stands, HasMap};
 ghost use Rattle.gx_pages.specs.Databases.{empty_pages};
 
@@ -19,6 +20,9 @@ pub fn format<D: Disk>(disk: &mut D) -> Result<(), Failed>
     ensures said { D.said disk.new ≡ D.said disk.old }
     ensures faults { D.faults disk.old ≤ D.faults disk.new }
     ensures failed { IsErr result → Rose (D.faults disk.old) (D.faults disk.new) }
+
+    // At each moment nothing more is answered.
+    ensures silent { Leaves D.Disk (λ _. Unit {0}) disk.old disk.new }
 {
     match shut_log(disk) {
         Ok(()) => (),
@@ -46,6 +50,7 @@ fn shut_log<D: Disk>(disk: &mut D) -> Result<(), Failed>
     ensures said { D.said disk.new ≡ D.said disk.old }
     ensures faults { D.faults disk.old ≤ D.faults disk.new }
     ensures failed { IsErr result → Rose (D.faults disk.old) (D.faults disk.new) }
+    ensures silent { Leaves D.Disk (λ _. Unit {0}) disk.old disk.new }
 {
     match disk.write_at(Area::Log, 0, &[0]) {
         Ok(()) => (),

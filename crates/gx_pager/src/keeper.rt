@@ -15,6 +15,9 @@ pub trait Keeper: Store {
     // How many pages stand in the records since the last checkpoint, one that stands in several records once for each.
     ghost pending: { Self → ℕ };
 
+    // How many pages were changed since the last commit.
+    ghost changed: { Self → ℕ };
+
     // The log as read has these counted records.
     ghost counted_records: { Self → List Record → Type 0 };
 
@@ -31,12 +34,14 @@ pub trait Keeper: Store {
         ensures reserved { OnOk result (Self.reserved self.new ≡ true) }
         ensures map { Self.tells → HasNoGap (Self.committed self.old) → Self.map self.new ≡ Self.map self.old }
 
-        // Where there is a gap, each page that is there stays as it is.
+        // Where there is a gap, each page that is there stays as it is, and at each moment nothing more is answered.
+        ensures silent { Elapses (Self.moment self.old) (Self.moment self.new) (Self.may_have_left_since self.old) (Self.may_have_left_since self.new) (λ m. m.bytes ≡ (Self.said self.old).bytes) }
         ensures kept { Self.tells → (n : ℕ) (bytes : List ℕ) → Self.map self.old n ≡ Some bytes → Self.map self.new n ≡ Some bytes }
         ensures kept_committed { Self.tells → (n : ℕ) (bytes : List ℕ) → Self.committed self.old n ≡ Some bytes → Self.committed self.new n ≡ Some bytes }
         ensures count { Self.count self.new ≡ Self.count self.old }
         ensures committed { IsCommitted (Self.tells × HasNoGap (Self.committed self.old)) Self.committed Self.committed_count self.new (Self.committed self.old) (Self.committed_count self.old) }
         ensures begun { Self.begun self.new ≡ Self.begun self.old }
+        ensures changed { changed self.new ≡ changed self.old }
         ensures same { Beside Self.said Self.fetches Self.heap_fetches Self.faults Self.follows self.old self.new }
         ensures spoiled { Self.spoiled self.new ≡ is_err result }
         ensures cause { FailsWith (Self.faults self.old) (Self.faults self.new) result }
@@ -54,6 +59,7 @@ pub trait Keeper: Store {
         ensures begun { Self.begun self.new ≡ Self.begun self.old }
         ensures spoiled { Self.spoiled self.new ≡ Self.spoiled self.old }
         ensures pending { pending self.new ≡ pending self.old }
+        ensures changed { changed self.new ≡ changed self.old }
         ensures records { (records : List Record) → counted_records self.old records → counted_records self.new records }
         ensures fetches { Self.fetches self.new ≡ Self.fetches self.old }
         ensures heap { Self.heap_fetches self.new ≡ Self.heap_fetches self.old }

@@ -1,7 +1,7 @@
 //! The pages of the unit, and those since the last checkpoint.
 
 ghost use Rattle.std.specs.Prelude.{◌≡◌, ◌≢◌, ℕ, ◌+◌, ◌^◌, ◌<◌, ◌≤◌, ◌==◌, if◌then◌else◌, true, is_some, IfSome, IfNone, OnOk, OnErr, Some, None};
-ghost use Rattle.std.specs.BTreeMap.{get};
+ghost use Rattle.std.specs.BTreeMap.{get, btree_map_len};
 ghost use Rattle.std.specs.Ordering.{nat_cmp};
 ghost use Rattle.gx_words.specs.PageMap.{with_page};
 ghost use Rattle.gx_log.specs.Records.{page_in};
@@ -38,7 +38,7 @@ pub struct Layers {
 }
 
 impl Layers {
-    ghost use Rattle.gx_pager.specs.Memory.{memory, committed_memory, overlay, unit, header_now, IsOpen, Keeps};
+    ghost use Rattle.gx_pager.specs.Memory.{memory, committed_memory, overlay, unit, changed, header_now, IsOpen, Keeps};
 
     /// The page, where it is in memory.
     pub fn find(&self, page: u64) -> Option<&Page>
@@ -226,6 +226,7 @@ impl Layers {
         ensures header { self.new.header ≡ header_over (unit self.old 0) self.old.header }
         ensures count { self.new.count ≡ self.old.count }
         ensures committed_count { self.new.committed_count ≡ self.old.count }
+        ensures none { changed self.new ≡ 0 }
     {
         if let Some(header) = self.unit.get(&0) {
             copy(header.as_ref(), &mut self.header);
@@ -239,6 +240,7 @@ impl Layers {
         ensures memory { memory self.new ≡ committed_memory self.old }
         ensures keeps { Keeps self.old self.new }
         ensures count { self.new.count ≡ self.old.committed_count }
+        ensures none { changed self.new ≡ 0 }
     {
         self.unit.clear();
         self.count = self.committed_count;
@@ -286,6 +288,7 @@ fn settle_page(kept: &mut Places, page: u64, bytes: Box<Page>)
 fn settle_pages(unit: &mut Images, kept: &mut Places)
     requires placed { (n : ℕ) → is_some (get nat_cmp unit.old n) ≡ true → is_some (get nat_cmp kept.old n) ≡ true }
     ensures none { (n : ℕ) → get nat_cmp unit.new n ≡ None }
+    ensures empty { btree_map_len unit.new ≡ 0 }
     ensures moved { (n : ℕ) → shown (get nat_cmp kept.new n) ≡ over (page_in (get nat_cmp unit.old n)) (shown (get nat_cmp kept.old n)) }
 {
     while let Some((page, bytes)) = unit.pop_first() {

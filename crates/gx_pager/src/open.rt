@@ -1,7 +1,7 @@
 //! Opening a disk: its log and page 0 are read, and nothing is written.
 
 ghost use Rattle.std.specs.Prelude.{◌≡◌, ℕ, length, Some, None, IfOk, IfErr, OnOk, Err};
-ghost use Rattle.std.specs.BTreeMap.{get};
+ghost use Rattle.std.specs.BTreeMap.{get, btree_map_len};
 ghost use Rattle.std.specs.Ordering.{nat_cmp};
 ghost use Rattle.gx_words.specs.PageMap.{PageMap};
 ghost use Rattle.gx_log.specs.Disks.{Reads};
@@ -105,7 +105,7 @@ fn read_header<D: Disk>(kept: &Places, disk: &mut D, into: &mut Page) -> Result<
 fn read_layers<D: Disk>(alloc: Global, disk: &mut D, kept: Places) -> Result<Layers, PageError>
     ensures header { IfOk result (λ layers. D.tells → over (shown (get nat_cmp kept 0)) (piece (D.told disk.old).pages 0) ≡ Some layers.header) }
     ensures fine { IfOk result (λ layers. wrong_field layers.header ≡ None) }
-    ensures unit { IfOk result (λ layers. (n : ℕ) → get nat_cmp layers.unit n ≡ None) }
+    ensures unit { IfOk result (λ layers. btree_map_len layers.unit ≡ 0) }
     ensures kept { IfOk result (λ layers. layers.kept ≡ kept) }
     ensures count { IfOk result (λ layers. layers.count ≡ layers.committed_count) }
     ensures cause { IfErr result (HasCause (D.faults disk.old) (D.faults disk.new)

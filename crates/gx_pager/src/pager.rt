@@ -1,18 +1,21 @@
 //! A store over a host.
 
-ghost use Rattle.std.specs.Prelude.{◌≡◌, ◌≢◌, Err, ◌+◌, ◌-◌, ◌^◌, ◌≤◌, ◌==◌, ℕ, min, List, [], ◌∷◌, take, drop, slice_index, if◌then◌else◌, false, IfOk, OnOk, IsErr, Some};
+ghost use Rattle.std.specs.Prelude.{◌≡◌, ◌≢◌, Err, ◌+◌, ◌-◌, ◌^◌, ◌≤◌, ◌==◌, ℕ, min, List, [], ◌∷◌, take, drop, slice_index, if◌then◌else◌, false, IfOk, IfErr, OnOk, IsErr, Some};
 ghost use Rattle.std.specs.BTreeMap.{get};
 ghost use Rattle.std.specs.Ordering.{nat_cmp};
 ghost use Rattle.gx_bytes.specs.Fields.{le32, le64};
 ghost use Rattle.gx_words.specs.Causes.{Rose};
 ghost use Rattle.gx_words.specs.Image.{Image};
 ghost use Rattle.gx_words.specs.PageMap.{PageMap};
+ghost use Rattle.gx_log.specs.Disks.{Leaves};
 ghost use Rattle.gx_log.specs.Records.{Record, Stands, HasMap, entries_in};
 ghost use Rattle.gx_pages.specs.Databases.{empty_pages};
 ghost use Rattle.gx_pages.specs.Frees.{HasCount, HasFirst};
+ghost use Rattle.gx_pages.specs.Pages.{HasCause};
 ghost use Rattle.gx_pager.specs.Cached.{Agrees};
 ghost use Rattle.gx_pager.specs.Known.{IsSound};
 ghost use Rattle.gx_pager.specs.Layers.{shown, pieces};
+ghost use Rattle.gx_pager.specs.Memory.{changed};
 ghost use Rattle.gx_pager.specs.Opened.{IsRead};
 ghost use Rattle.gx_pager.specs.Openings.{OpenBroken, Opening, IsHeader};
 
@@ -74,6 +77,9 @@ impl<'h, H: Host> Pager<'h, H> {
         ensures said { H.said host.new ≡ H.said host.old }
         ensures faults { H.faults host.old ≤ H.faults host.new }
         ensures failed { IsErr result → Rose (H.faults host.old) (H.faults host.new) }
+
+        // At each moment nothing more is answered.
+        ensures silent { Leaves H.Disk (λ _. Unit {0}) host.old host.new }
     {
         format(host)
     }
@@ -90,6 +96,7 @@ impl<'h, H: Host> Pager<'h, H> {
         ensures map { ⟦<Pager<'h, H> as Pages>⟧.map result ≡ ⟦<Pager<'h, H> as Pages>⟧.committed result }
         ensures count { ⟦<Pager<'h, H> as Pages>⟧.count result ≡ ⟦<Pager<'h, H> as Pages>⟧.committed_count result }
         ensures fresh { (result.spoiled ≡ false) × (result.begun ≡ false) × (result.fetches ≡ 0) × (result.heap_fetches ≡ 0) }
+        ensures unchanged { changed result.layers ≡ 0 }
     {
         let Opened {
             alloc,
@@ -112,9 +119,12 @@ impl<'h, H: Host> Pager<'h, H> {
         }
     }
 
-    /// Opens a host: reads its log and page 0, and writes nothing. What an error leaves of a host that is needed
-    /// further, and that a failure of the disk rose its count, is said by `read_file`.
+    /// Opens a host: reads its log and page 0, and writes nothing. That the host ends in the state from which an error
+    /// comes is said by `read_file`.
     pub fn open(alloc: Global, host: &'h mut H) -> Result<Pager<'h, H>, PageError>
+        // An error comes from a state of the host in which it was only read, and has its cause there.
+        ensures refused { IfErr result (λ error. (last : H) × Opening H.Disk host.old last
+            × HasCause (H.faults host.old) (H.faults last) (λ at expected found. H.tells → OpenBroken (H.told host.old) at expected found) (λ _. ⊥) (Unit {0}) error) }
         ensures broken { (at expected found : ℕ) → result ≡ Err (PageError.Broken at expected found) → (expected ≢ found) × (H.tells → OpenBroken (H.told host.old) at expected found) }
         ensures space { (pages : ℕ) → result ≢ Err (PageError.PageSpace pages) }
         ensures sound { OnOk result (H.tells → (at expected found : ℕ) → OpenBroken (H.told host.old) at expected found → ⊥) }
@@ -128,6 +138,7 @@ impl<'h, H: Host> Pager<'h, H> {
         ensures map { IfOk result (λ pager. ⟦<Pager<'h, H> as Pages>⟧.map pager ≡ ⟦<Pager<'h, H> as Pages>⟧.committed pager) }
         ensures count { IfOk result (λ pager. ⟦<Pager<'h, H> as Pages>⟧.count pager ≡ ⟦<Pager<'h, H> as Pages>⟧.committed_count pager) }
         ensures fresh { IfOk result (λ pager. (pager.spoiled ≡ false) × (pager.begun ≡ false) × (pager.fetches ≡ 0) × (pager.heap_fetches ≡ 0)) }
+        ensures unchanged { IfOk result (λ pager. changed pager.layers ≡ 0) }
     {
         let opened = match read_file(alloc, host) {
             Ok(opened) => opened,
@@ -167,11 +178,13 @@ impl<'h, H: Host> Pager<'h, H> {
 }
 
 impl<'h, H: Host> Pages for Pager<'h, H> {
-    ghost use Rattle.std.specs.Prelude.{◌*◌, ◌<◌, length, is_ok, None, IfErr};
-    ghost use Rattle.gx_pages.specs.Pages.{Quiet, HasCause};
+    ghost use Rattle.std.specs.Prelude.{◌*◌, ◌<◌, length, is_ok, None, Ok, IfErr, OnErr};
+    ghost use Rattle.gx_pages.specs.Pages.{Quiet};
     ghost use Rattle.gx_words.specs.Image.{Image};
     ghost use Rattle.gx_pager.specs.Left.{MapLeft, MapSince, Follows, committed_left, counted_zero, counted_committed, cut_ends, follows_same, follows_join};
-    ghost use Rattle.gx_pager.specs.Layers.{pieces, map_over};
+    ghost use Rattle.gx_log.specs.Records.{laid_all};
+    ghost use Rattle.gx_pager.specs.Cached.{cached};
+    ghost use Rattle.gx_pager.specs.Layers.{over, pieces, map_over};
     ghost use Rattle.gx_pager.specs.Memory.{memory, committed_memory, overlay, unit, now_map, committed_map};
     ghost use Rattle.std.proofs.Common.{refl, ◌∙◌};
 
@@ -237,8 +250,17 @@ impl<'h, H: Host> Pages for Pager<'h, H> {
         // Of a page that is lacking it tells how many bytes the disk has of it.
         ensures lacking { (at expected found : ℕ) → result ≡ Err (PageError.Broken at expected found) → page < self.old.layers.count
             → H.tells → found ≡ length (H.told self.old.host.now).pages - page * 8192 }
+
+        // An error below the count comes only for a page of which no counted record has an entry.
+        ensures uncounted { OnErr result (page < self.old.layers.count → H.tells → self.old.spoiled ≡ false → (records : List Record) → Stands records (H.told self.old.host.now).log → laid_all None page records ≡ None) }
+
+        // A page in memory, changed since the last checkpoint or cached, is fetched without a call of the disk.
+        ensures near { (bytes : List ℕ) → page < self.old.layers.count → over (memory self.old.layers page) (cached self.old.cache.pages.entries page) ≡ Some bytes
+            → (into.new ≡ bytes) × (result ≡ Ok tt) × (self.new.host.now ≡ self.old.host.now) }
+        ensures far { self.old.layers.count ≤ page → self.new.host.now ≡ self.old.host.now }
         ensures map { now_map self.new.layers (H.told self.new.host.now) ≡ now_map self.old.layers (H.told self.old.host.now) }
         ensures count { self.new.layers.count ≡ self.old.layers.count }
+        ensures changed { changed self.new.layers ≡ changed self.old.layers }
         ensures fetches { self.new.fetches ≡ min (self.old.fetches + 1) (2 ^ 64 - 1) }
         ensures heap { self.new.heap_fetches ≡ (if is_ok result then (if slice_index into.new 0 == 2 then min (self.old.heap_fetches + 1) (2 ^ 64 - 1) else self.old.heap_fetches) else self.old.heap_fetches) }
         ensures quiet { Quiet (λ p. H.said p.host.now) (λ p. committed_map p.layers (H.told p.host.now)) (λ p. p.spoiled) (λ p. p.begun) (λ p. p.layers.committed_count)
@@ -293,15 +315,52 @@ impl<'h, H: Host> Pages for Pager<'h, H> {
 }
 
 impl<'h, H: Host> Store for Pager<'h, H> {
-    ghost use Rattle.std.specs.Prelude.{nat_le};
+    ghost use Rattle.std.specs.Prelude.{◌<◌, nat_le, true, is_ok, ◌⊎◌, OnErr, IfErr};
+    ghost use Rattle.gx_words.specs.Moments.{Now, Elapses};
+    ghost use Rattle.gx_pages.specs.Pages.{Beside, HasNoGap, IsCommitted, is_disk_fault};
 
     ghost reserved = { λ p. nat_le p.log (2 ^ 62) };
 
-    fn begin(&mut self) {
+    fn begin(&mut self)
+        requires { self.old.spoiled ≡ false }
+        ensures begun { self.new.begun ≡ true }
+        ensures map { let P = ⟦<Pager<'h, H> as Pages>⟧ in P.tells → P.map self.new ≡ P.map self.old }
+        ensures count { self.new.layers.count ≡ self.old.layers.count }
+        ensures committed { let P = ⟦<Pager<'h, H> as Pages>⟧ in IsCommitted P.tells P.committed P.committed_count self.new (P.committed self.old) (P.committed_count self.old) }
+        ensures same { let P = ⟦<Pager<'h, H> as Pages>⟧ in Beside P.said P.fetches P.heap_fetches P.faults P.follows self.old self.new }
+        ensures spoiled { self.new.spoiled ≡ false }
+        ensures images { let P = ⟦<Pager<'h, H> as Pages>⟧ in (m : PageMap) → P.may_leave self.new m → P.may_leave self.old m }
+        ensures time { let P = ⟦<Pager<'h, H> as Pages>⟧ in Elapses (P.moment self.old) (P.moment self.new) (P.may_have_left_since self.old) (P.may_have_left_since self.new) (Now (P.may_leave self.old) (P.said self.old).bytes) }
+        ensures changed { changed self.new.layers ≡ changed self.old.layers }
+        ensures host { self.new.host.now ≡ self.old.host.now }
+    {
         self.begun = true;
     }
 
-    fn reserve(&mut self) -> Result<(), PageError> {
+    fn reserve(&mut self) -> Result<(), PageError>
+        requires { self.old.spoiled ≡ false }
+        ensures reserved { OnOk result (nat_le self.new.log (2 ^ 62) ≡ true) }
+        ensures map { let P = ⟦<Pager<'h, H> as Pages>⟧ in P.tells → HasNoGap (P.committed self.old) → P.map self.new ≡ P.map self.old }
+        ensures count { self.new.layers.count ≡ self.old.layers.count }
+        ensures committed { let P = ⟦<Pager<'h, H> as Pages>⟧ in IsCommitted (P.tells × HasNoGap (P.committed self.old)) P.committed P.committed_count self.new (P.committed self.old) (P.committed_count self.old) }
+        ensures begun { self.new.begun ≡ self.old.begun }
+        ensures same { let P = ⟦<Pager<'h, H> as Pages>⟧ in Beside P.said P.fetches P.heap_fetches P.faults P.follows self.old self.new }
+        ensures spoiled { self.new.spoiled ≡ is_disk_fault result }
+        ensures cause { IfErr result (HasCause (H.faults self.old.host.now) (H.faults self.new.host.now) (λ _ _ _. ⊥) (λ _. ⊥) (Unit {0})) }
+        ensures images { let P = ⟦<Pager<'h, H> as Pages>⟧ in HasNoGap (P.committed self.old) → (m : PageMap) → P.may_leave self.new m → P.may_leave self.old m }
+        ensures time { let P = ⟦<Pager<'h, H> as Pages>⟧ in HasNoGap (P.committed self.old)
+            → Elapses (P.moment self.old) (P.moment self.new) (P.may_have_left_since self.old) (P.may_have_left_since self.new) (Now (P.may_leave self.old) (P.said self.old).bytes) }
+        ensures changed { changed self.new.layers ≡ changed self.old.layers }
+
+        // Where there is a gap, each page that is there stays as it is, and at each moment nothing more is answered.
+        ensures silent { let P = ⟦<Pager<'h, H> as Pages>⟧ in Elapses (P.moment self.old) (P.moment self.new) (P.may_have_left_since self.old) (P.may_have_left_since self.new) (λ m. m.bytes ≡ (P.said self.old).bytes) }
+        ensures kept { let P = ⟦<Pager<'h, H> as Pages>⟧ in P.tells → (n : ℕ) (bytes : List ℕ) → P.map self.old n ≡ Some bytes → P.map self.new n ≡ Some bytes }
+        ensures kept_committed { let P = ⟦<Pager<'h, H> as Pages>⟧ in P.tells → (n : ℕ) (bytes : List ℕ) → P.committed self.old n ≡ Some bytes → P.committed self.new n ≡ Some bytes }
+
+        // It calls the disk only where the log is long; then it is a checkpoint.
+        ensures enough { self.old.log ≤ 2 ^ 62 → (self.new.host.now ≡ self.old.host.now) × (self.new.waiting ≡ self.old.waiting) }
+        ensures emptied { OnOk result (2 ^ 62 < self.old.log → (self.new.waiting ≡ 0) × (H.tells → Stands [] (H.told self.new.host.now).log)) }
+    {
         if self.log.front() <= MOST {
             return Ok(());
         }
@@ -311,7 +370,30 @@ impl<'h, H: Host> Store for Pager<'h, H> {
         }
     }
 
-    fn commit(&mut self) -> Result<(), PageError> {
+    fn commit(&mut self) -> Result<(), PageError>
+        requires { self.old.spoiled ≡ false }
+        ensures committed { let P = ⟦<Pager<'h, H> as Pages>⟧ in OnOk result (IsCommitted P.tells P.committed P.committed_count self.new (P.map self.old) (P.count self.old)) }
+        ensures memory { let P = ⟦<Pager<'h, H> as Pages>⟧ in result ≡ Err PageError.Memory → IsCommitted P.tells P.committed P.committed_count self.new (P.committed self.old) (P.committed_count self.old)
+            × ((m : PageMap) → P.may_leave self.new m → P.may_leave self.old m) }
+        ensures either { let P = ⟦<Pager<'h, H> as Pages>⟧ in OnErr result (IsCommitted P.tells P.committed P.committed_count self.new (P.committed self.old) (P.committed_count self.old)
+            ⊎ IsCommitted P.tells P.committed P.committed_count self.new (P.map self.old) (P.count self.old)) }
+        ensures begun { self.new.begun ≡ (if is_ok result then false else self.old.begun) }
+        ensures map { let P = ⟦<Pager<'h, H> as Pages>⟧ in P.tells → P.map self.new ≡ P.map self.old }
+        ensures count { self.new.layers.count ≡ self.old.layers.count }
+        ensures same { let P = ⟦<Pager<'h, H> as Pages>⟧ in Beside P.said P.fetches P.heap_fetches P.faults P.follows self.old self.new }
+        ensures spoiled { self.new.spoiled ≡ is_disk_fault result }
+        ensures cause { IfErr result (HasCause (H.faults self.old.host.now) (H.faults self.new.host.now) (λ _ _ _. ⊥) (λ _. ⊥) (nat_le self.old.log (2 ^ 62) ≡ false)) }
+        ensures only { let P = ⟦<Pager<'h, H> as Pages>⟧ in OnOk result (P.tells → (m : PageMap) → P.may_leave self.new m → m ≡ P.map self.old) }
+        ensures time { let P = ⟦<Pager<'h, H> as Pages>⟧ in Elapses (P.moment self.old) (P.moment self.new) (P.may_have_left_since self.old) (P.may_have_left_since self.new)
+            (λ m. (P.may_leave self.old m.image ⊎ (m.image ≡ P.map self.old)) × (m.bytes ≡ (P.said self.old).bytes)) }
+
+        // It writes no page in place. Where no page was changed it calls no disk; after an Ok none is.
+        ensures nothing { changed self.old.layers ≡ 0 → self.new.host.now ≡ self.old.host.now }
+        ensures fine { changed self.old.layers ≡ 0 → result ≢ Err PageError.DiskFault }
+        ensures unchanged { OnOk result (changed self.new.layers ≡ 0) }
+        ensures pages { H.tells → (H.told self.new.host.now).pages ≡ (H.told self.old.host.now).pages }
+        ensures waiting { OnOk result (self.new.waiting ≡ min (self.old.waiting + changed self.old.layers) (2 ^ 64 - 1)) }
+    {
         if self.log.front() > MOST {
             return Err(PageError::Memory);
         }
@@ -328,7 +410,18 @@ impl<'h, H: Host> Store for Pager<'h, H> {
         Ok(())
     }
 
-    fn abandon(&mut self) {
+    fn abandon(&mut self)
+        ensures map { let P = ⟦<Pager<'h, H> as Pages>⟧ in P.tells → P.map self.new ≡ P.committed self.old }
+        ensures count { self.new.layers.count ≡ self.old.layers.committed_count }
+        ensures committed { let P = ⟦<Pager<'h, H> as Pages>⟧ in IsCommitted P.tells P.committed P.committed_count self.new (P.committed self.old) (P.committed_count self.old) }
+        ensures begun { self.new.begun ≡ false }
+        ensures spoiled { self.new.spoiled ≡ self.old.spoiled }
+        ensures same { let P = ⟦<Pager<'h, H> as Pages>⟧ in Beside P.said P.fetches P.heap_fetches P.faults P.follows self.old self.new }
+        ensures images { let P = ⟦<Pager<'h, H> as Pages>⟧ in (m : PageMap) → P.may_leave self.new m → P.may_leave self.old m }
+        ensures time { let P = ⟦<Pager<'h, H> as Pages>⟧ in Elapses (P.moment self.old) (P.moment self.new) (P.may_have_left_since self.old) (P.may_have_left_since self.new) (Now (P.may_leave self.old) (P.said self.old).bytes) }
+        ensures unchanged { changed self.new.layers ≡ 0 }
+        ensures host { self.new.host.now ≡ self.old.host.now }
+    {
         self.layers.abandon();
         self.begun = false;
     }
@@ -339,6 +432,8 @@ impl<'h, H: Host> Keeper for Pager<'h, H> {
     ghost use Rattle.gx_log.proofs.Bodies.{stands_same};
 
     ghost pending = { λ p. p.waiting };
+
+    ghost changed = { λ p. changed p.layers };
 
     ghost counted_records = { λ p records. Stands records (H.told p.host.now).log };
 

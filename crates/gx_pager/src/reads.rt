@@ -1,10 +1,10 @@
 //! Pages that are read, from memory or else from the disk.
 
-ghost use Rattle.std.specs.Prelude.{◌≡◌, ℕ, ◌-◌, ◌*◌, ◌^◌, ◌<◌, ◌≤◌, length, Some, None, IfErr, OnOk};
+ghost use Rattle.std.specs.Prelude.{◌≡◌, ℕ, ◌-◌, ◌*◌, ◌^◌, ◌<◌, ◌≤◌, List, length, Some, None, Ok, IfErr, OnOk, OnErr};
 ghost use Rattle.gx_words.specs.PageMap.{PageMap};
 ghost use Rattle.gx_log.specs.Disks.{Reads};
 ghost use Rattle.gx_pages.specs.Pages.{HasCause};
-ghost use Rattle.gx_pager.specs.Cached.{Agrees};
+ghost use Rattle.gx_pager.specs.Cached.{Agrees, cached};
 ghost use Rattle.gx_pager.specs.Layers.{over, pieces};
 ghost use Rattle.gx_pager.specs.Memory.{memory};
 
@@ -28,6 +28,9 @@ fn read_cached<D: Disk>(
     ensures bytes { OnOk result (D.tells → Agrees (pieces (D.told disk.old)) cache.old.pages.entries → pieces (D.told disk.old) page ≡ Some into.new) }
     ensures cause { IfErr result (HasCause (D.faults disk.old) (D.faults disk.new) (λ at expected found. (at ≡ page) × (expected ≡ 8192) × (found < 8192)
         × (D.tells → (pieces (D.told disk.old) page ≡ None) × (found ≡ length (D.told disk.old).pages - page * 8192))) (λ _. ⊥) ⊥) }
+
+    // A cached page is read without a call of the disk.
+    ensures near { (bytes : List ℕ) → cached cache.old.pages.entries page ≡ Some bytes → (into.new ≡ bytes) × (result ≡ Ok tt) × (disk.new ≡ disk.old) }
     ensures agrees { D.tells → Agrees (pieces (D.told disk.old)) cache.old.pages.entries → Agrees (pieces (D.told disk.new)) cache.new.pages.entries }
     ensures reads { Reads D.Disk disk.old disk.new }
 {
@@ -55,6 +58,10 @@ pub fn load<D: Disk>(
     ensures bytes { OnOk result (D.tells → Agrees (pieces (D.told disk.old)) cache.old.pages.entries → over (memory layers.now page) (pieces (D.told disk.old) page) ≡ Some into.new) }
     ensures cause { IfErr result (HasCause (D.faults disk.old) (D.faults disk.new) (λ at expected found. (at ≡ page) × (expected ≡ 8192) × (found < 8192)
         × (D.tells → (over (memory layers.now page) (pieces (D.told disk.old) page) ≡ None) × (found ≡ length (D.told disk.old).pages - page * 8192))) (λ _. ⊥) ⊥) }
+
+    // A page in memory, or else a cached one, is read without a call of the disk.
+    ensures near { (bytes : List ℕ) → over (memory layers.now page) (cached cache.old.pages.entries page) ≡ Some bytes → (into.new ≡ bytes) × (result ≡ Ok tt) × (disk.new ≡ disk.old) }
+    ensures absent { OnErr result (memory layers.now page ≡ None) }
     ensures agrees { D.tells → Agrees (pieces (D.told disk.old)) cache.old.pages.entries → Agrees (pieces (D.told disk.new)) cache.new.pages.entries }
     ensures reads { Reads D.Disk disk.old disk.new }
 {

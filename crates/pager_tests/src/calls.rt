@@ -1,8 +1,9 @@
 //! Each call once: what is fetched, what waits, what is answered, and which calls of the disk are made.
 
 ghost use Rattle.std.specs.Prelude.{◌≡◌, false, OnOk};
+ghost use Rattle.gx_pager.specs.Memory.{changed};
 
-use gx_disk::MemoryHost;
+use gx_disk::{Host, MemoryHost};
 use gx_pager::{Header, Keeper, Pager};
 use gx_pages::{Page, PageError, Pages, Store};
 use std::test::Fail;
@@ -61,16 +62,26 @@ fn waiting_pages(rt: HostRuntime) -> Result<(), Fail> {
     Ok(())
 }
 
-// Commits a unit without changes.
-fn commit_nothing<S: Store>(store: &mut S) -> Result<(), PageError>
-    requires { S.spoiled store.old ≡ false }
+// Commits where no page was changed: the host is as it was.
+fn commit_unchanged<H: Host>(pager: &mut Pager<H>) -> Result<(), PageError>
+    requires sound { pager.old.spoiled ≡ false }
+    requires unchanged { changed pager.old.layers ≡ 0 }
+    ensures { pager.new.host.now ≡ pager.old.host.now }
 {
-    store.begin();
-    match store.reserve() {
+    pager.commit()
+}
+
+// Commits a unit without changes.
+fn commit_nothing<H: Host>(pager: &mut Pager<H>) -> Result<(), PageError>
+    requires sound { pager.old.spoiled ≡ false }
+    requires unchanged { changed pager.old.layers ≡ 0 }
+{
+    pager.begin();
+    match pager.reserve() {
         Ok(()) => (),
         Err(error) => return Err(error),
     }
-    store.commit()
+    commit_unchanged(pager)
 }
 
 #[test]

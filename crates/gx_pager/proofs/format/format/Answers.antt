@@ -3,7 +3,7 @@ use Rattle.gx_words.specs.Image.{Image}
 use Rattle.gx_log.specs.Records.{Stands, HasMap, piece}
 use Rattle.gx_pages.specs.Contents.{below, given}
 use Rattle.gx_pages.specs.Databases.{catalog_page}
-use Rattle.gx_pager.proofs.Formatting.{two_map}
+use Rattle.gx_pager.proofs.Formatting.{two_map, silent_call, silent_then}
 use Rattle.gx_pager.proofs.Placing.{other_stays}
 use Rattle.gx_pager.proofs.format.format.Goals as goal
 
@@ -25,3 +25,41 @@ returns-clause-empty g c = λ tells image left.
     let map = two_map header catalog image stands first second c.header_page.ensures.counted in
     subst (λ (h : List ℕ). HasMap image (below 2 (given (h ∷ catalog_page ∷ [])))) c.header_page.ensures.bytes
     (subst (λ (k : List ℕ). HasMap image (below 2 (given (header ∷ k ∷ [])))) c.empty_catalog.ensures map)
+
+pub returns-in-Err-write_page-clause-silent : goal.returns-in-Err-write_page-clause-silent
+returns-in-Err-write_page-clause-silent g c =
+    let D = g.D.Disk in
+    let one = c.shut_log.new.disk in
+    let two = c.write_page.new.disk in
+    let first = silent_then D c.args.disk.now one two c.shut_log.ensures.said c.shut_log.ensures.silent (silent_call D one two _ c.write_page.ensures.time) in
+    first
+
+pub returns-in-Err-write_page-2-clause-silent : goal.returns-in-Err-write_page-2-clause-silent
+returns-in-Err-write_page-2-clause-silent g c =
+    let D = g.D.Disk in
+    let one = c.shut_log.new.disk in
+    let two = c.write_page.new.disk in
+    let first = silent_then D c.args.disk.now one two c.shut_log.ensures.said c.shut_log.ensures.silent (silent_call D one two _ c.write_page.ensures.time) in
+    let three = c.write_page-2.new.disk in
+    let second = silent_then D c.args.disk.now two three (c.write_page.ensures.said ∙ c.shut_log.ensures.said) first (silent_call D two three _ c.write_page-2.ensures.time) in
+    second
+
+pub returns-in-Err-sync-clause-silent : goal.returns-in-Err-sync-clause-silent
+returns-in-Err-sync-clause-silent g c =
+    let D = g.D.Disk in
+    let one = c.shut_log.new.disk in
+    let two = c.write_page.new.disk in
+    let first = silent_then D c.args.disk.now one two c.shut_log.ensures.said c.shut_log.ensures.silent (silent_call D one two _ c.write_page.ensures.time) in
+    let three = c.write_page-2.new.disk in
+    let second = silent_then D c.args.disk.now two three (c.write_page.ensures.said ∙ c.shut_log.ensures.said) first (silent_call D two three _ c.write_page-2.ensures.time) in
+    silent_then D c.args.disk.now three c.sync.new.self (c.write_page-2.ensures.said ∙ c.write_page.ensures.said ∙ c.shut_log.ensures.said) second (silent_call D three c.sync.new.self _ c.sync.ensures.time)
+
+pub returns-clause-silent : goal.returns-clause-silent
+returns-clause-silent g c =
+    let D = g.D.Disk in
+    let one = c.shut_log.new.disk in
+    let two = c.write_page.new.disk in
+    let first = silent_then D c.args.disk.now one two c.shut_log.ensures.said c.shut_log.ensures.silent (silent_call D one two _ c.write_page.ensures.time) in
+    let three = c.write_page-2.new.disk in
+    let second = silent_then D c.args.disk.now two three (c.write_page.ensures.said ∙ c.shut_log.ensures.said) first (silent_call D two three _ c.write_page-2.ensures.time) in
+    silent_then D c.args.disk.now three c.sync.new.self (c.write_page-2.ensures.said ∙ c.write_page.ensures.said ∙ c.shut_log.ensures.said) second (silent_call D three c.sync.new.self _ c.sync.ensures.time)

@@ -1,6 +1,10 @@
 use Rattle.std.proofs.Common.{Some, sym, ◌∙◌, ap}
+use Rattle.gx_log.specs.Records.{page_in}
 use Rattle.gx_pager.proofs.Cached.{found_agrees, promoted_agrees}
 use Rattle.gx_pager.proofs.cache.Cache.get.Goals as goal
+
+pub returns-in-Some-clause-found : goal.returns-in-Some-clause-found
+returns-in-Some-clause-found c = λ hit. ap page_in (sym c.in-Some.ensures.value) ∙ ap Some (sym (c.copy.ensures ∙ c.deref.ensures))
 
 pub returns-in-Some-clause-hit : goal.returns-in-Some-clause-hit
 returns-in-Some-clause-hit c = λ hit map agrees.

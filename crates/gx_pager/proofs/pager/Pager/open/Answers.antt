@@ -8,3 +8,6 @@ returns-in-Err-clause-stands g c = λ tells map has is at expected found same.
     let e = c.in-Err.error in
     let broken = err_same e (error.Broken at expected found) (Err e) refl same in
     c.in-Err.ensures.stands tells map has is at expected found (λ i. Err (broken i))
+
+pub returns-in-Err-clause-refused : goal.returns-in-Err-clause-refused
+returns-in-Err-clause-refused g c = (c.read_file.new.disk, c.read_file.ensures.opening, c.in-Err.ensures.cause)

@@ -1,6 +1,7 @@
 use Rattle.gx_pager.specs.Layers.{pieces}
 use Rattle.gx_pager.specs.Memory.{overlay}
 use Rattle.gx_pager.proofs.Adding.{sound_map}
+use Rattle.gx_pager.proofs.LayerMaps.{unchanged_map}
 use Rattle.gx_pager.proofs.pager.Pager.over.Goals as goal
 
 pub invariant_of-result : goal.invariant_of-result
@@ -22,3 +23,6 @@ returns-clause-read g c = λ tells.
     let o = c.args.opened in
     sound_map g.H.Disk c.args.host.now o.log o.layers.header (overlay o.layers) o.layers.committed_count o.layers.committed_counted o.layers.committed_bounded (c.requires.sound tells)
     (g.H.Disk.told c.args.host.now) (g.met.H.Disk.told_may_stay c.args.host.now tells)
+
+pub returns-clause-map : goal.returns-clause-map
+returns-clause-map g c = unchanged_map c.args.opened.layers (g.H.Disk.told c.args.host.now) c.requires.unit c.requires.count

@@ -10,7 +10,7 @@ use Rattle.gx_pager.specs.Memory.{overlay, unit, now_map, committed_map}
 use Rattle.gx_pager.proofs.Closing.{filled}
 use Rattle.gx_pager.proofs.Keeping.{left_keeps, made_keeps}
 use Rattle.gx_pager.proofs.LayerMaps.{unit_taken}
-use Rattle.gx_pager.proofs.Ending.{ends_time, ends_images, ends_follows, left_now_map, left_committed_map, made_now_map, made_committed_map, made_sound}
+use Rattle.gx_pager.proofs.Ending.{ends_time, ends_silent, ends_images, ends_follows, left_now_map, left_committed_map, made_now_map, made_committed_map, made_sound}
 use Rattle.gx_pager.proofs.pager.PagerKeeper.checkpoint.Goals as goal
 
 apart : true ≡ false → ⊥
@@ -46,6 +46,15 @@ returns-in-Err-clause-map g c = λ tells no_gap.
     let s = sound_of g.H.Disk p.host.now p.log l.header (overlay l) (p.sound tells c.requires) in
     let full = filled l.header (overlay l) l.committed_count (g.H.Disk.told p.host.now) s.zero no_gap in
     left_now_map l (g.H.Disk.told p.host.now) (g.H.Disk.told c.close_log.new.disk) s.zero ((c.close_log.ensures.placed tells).0 full)
+
+pub returns-in-Err-clause-silent : goal.returns-in-Err-clause-silent
+returns-in-Err-clause-silent g c =
+    let p = c.args.self.now in
+    let l = p.layers in
+    let sound = λ (tells : g.H.Disk.tells). sound_of g.H.Disk p.host.now p.log l.header (overlay l) (p.sound tells c.requires) in
+    let k = c.close_log.ensures in
+    ends_silent g.H.Disk g.met.H.Disk.counts_now g.met.H.Disk.only_now g.met.H.Disk.told_may_stay p.host.now c.close_log.new.disk p.log l.header (overlay l) l.committed_count l.committed_some l.committed_bounded
+    l.committed_counted sound k.goes (λ tells. k.time tells l.header l.committed_counted (sound tells))
 
 pub returns-in-Err-clause-kept : goal.returns-in-Err-clause-kept
 returns-in-Err-clause-kept g c = λ tells.
@@ -123,6 +132,15 @@ returns-clause-map g c = λ tells no_gap.
     let full = filled l.header (overlay l) l.committed_count (g.H.Disk.told p.host.now) s.zero no_gap in
     let f = c.forget.ensures in
     made_now_map l (g.H.Disk.told p.host.now) (g.H.Disk.told c.close_log.new.disk) s.zero ((c.close_log.ensures.placed tells).0 full) c.forget.new.self (c.in-Ok.ensures.written tells) f.overlay f.unit f.header f.count
+
+pub returns-clause-silent : goal.returns-clause-silent
+returns-clause-silent g c =
+    let p = c.args.self.now in
+    let l = p.layers in
+    let sound = λ (tells : g.H.Disk.tells). sound_of g.H.Disk p.host.now p.log l.header (overlay l) (p.sound tells c.requires) in
+    let k = c.close_log.ensures in
+    ends_silent g.H.Disk g.met.H.Disk.counts_now g.met.H.Disk.only_now g.met.H.Disk.told_may_stay p.host.now c.close_log.new.disk p.log l.header (overlay l) l.committed_count l.committed_some l.committed_bounded
+    l.committed_counted sound k.goes (λ tells. k.time tells l.header l.committed_counted (sound tells))
 
 pub returns-clause-kept : goal.returns-clause-kept
 returns-clause-kept g c = λ tells n bytes there.

@@ -3,7 +3,9 @@ use Rattle.gx_words.specs.Image.{Image}
 use Rattle.gx_log.specs.Records.{Stands}
 use Rattle.gx_pages.proofs.Footprints.{cause_weaker}
 use Rattle.gx_pager.specs.Layers.{map_over, pieces}
-use Rattle.gx_pager.specs.Memory.{overlay, memory, committed_map}
+use Rattle.gx_pager.specs.Known.{sound_of}
+use Rattle.gx_pager.specs.Memory.{overlay, unit, memory, committed_map}
+use Rattle.gx_pager.proofs.Lacking.{uncounted}
 use Rattle.gx_pager.proofs.Maps.{cut_below}
 use Rattle.gx_pager.proofs.Moments.{sound_reads, maps_reads, left_reads, follows_reads}
 use Rattle.gx_pager.proofs.pager.PagerPages.fetch.Goals as goal
@@ -51,6 +53,12 @@ returns-in-Err-clause-cause g c =
     cause_weaker c.in-Err.error (g.H.Disk.faults p.host.now) (g.H.Disk.faults p.host.now) (g.H.Disk.faults c.load.new.disk) (g.H.Disk.faults c.load.new.disk) _ _ _ _ _ _ (omega arith) (omega arith)
     (λ at expected found broken. (broken.0, λ small. (broken.1, broken.2, λ tells. cut_below p.layers.count (map_over (memory p.layers) (pieces image)) c.args.page small ∙ (broken.3 tells).0)))
     (λ pages no. no) (λ no. no) c.in-Err.ensures.cause
+
+pub returns-in-Err-clause-uncounted : goal.returns-in-Err-clause-uncounted
+returns-in-Err-clause-uncounted g c = λ small tells fine.
+    let p = c.args.self.now in
+    uncounted g.H.Disk p.host.now p.log p.layers.header (unit p.layers) (overlay p.layers) c.args.page c.in-Err.ensures.absent
+    (sound_of g.H.Disk p.host.now p.log p.layers.header (overlay p.layers) (p.sound tells fine))
 
 pub returns-clause-bytes : goal.returns-clause-bytes
 returns-clause-bytes g c = λ tells.
