@@ -59,6 +59,8 @@ impl Catalog {
         ensures map { P.map pages.new ≡ P.map pages.old }
         ensures count { P.count pages.new ≡ P.count pages.old }
         ensures heap { IsSound result → P.heap_fetches pages.new ≡ P.heap_fetches pages.old }
+        ensures once { P.heap_fetches pages.new ≤ P.heap_fetches pages.old + 1 }
+        ensures fetches { IfOk result (λ catalog. P.fetches pages.new ≤ P.fetches pages.old + catalog.chain.pages) }
         ensures quiet { StaysQuiet P.Pages pages.old pages.new }
     {
         let (chain, _feet, entries) = Chain::open(alloc, pages, CATALOG, FIRST)?;

@@ -37,6 +37,7 @@ impl Chain {
         ensures cause { IfErr result (HasCause (P.faults pages.old) (P.faults pages.new)
             (λ at expected found. P.tells → ListsNone P.Pages pages.old) (IsFull P.tells (P.map pages.new) (P.count pages.new)) (Unit {0})) }
         ensures heap { P.heap_fetches pages.new ≡ P.heap_fetches pages.old }
+        ensures fetches { P.fetches pages.new ≡ P.fetches pages.old }
         ensures quiet { StaysQuiet P.Pages pages.old pages.new }
     {
         let first = pages.take()?;
@@ -75,6 +76,7 @@ impl Chain {
             → Holds (P.map pages.old) (P.count pages.old) kind self.old (front ++ (self.old.last, items) ∷ []) → ¬ HasRoom items item.now)) (Unit {0})) }
         ensures heap { P.heap_fetches pages.new ≤ P.heap_fetches pages.old + 1 }
         ensures other { kind ≢ 2 → IsSound result → P.heap_fetches pages.new ≡ P.heap_fetches pages.old }
+        ensures fetches { P.fetches pages.new ≤ P.fetches pages.old + 1 }
         ensures quiet { StaysQuiet P.Pages pages.old pages.new }
     {
         let mut slots = fetch_slots(pages, self.last, kind)?;
@@ -111,6 +113,8 @@ impl Chain {
         ensures map { P.map pages.new ≡ P.map pages.old }
         ensures count { P.count pages.new ≡ P.count pages.old }
         ensures other { kind ≢ 2 → IsSound result → P.heap_fetches pages.new ≡ P.heap_fetches pages.old }
+        ensures once { kind ≢ 2 → P.heap_fetches pages.new ≤ P.heap_fetches pages.old + 1 }
+        ensures fetches { IfOk result (λ opened. P.fetches pages.new ≤ P.fetches pages.old + opened.0.pages) }
         ensures quiet { StaysQuiet P.Pages pages.old pages.new }
     {
         let mut entries = Vec::new(alloc);
@@ -166,6 +170,7 @@ impl Chain {
         ensures count { P.count pages.new ≡ P.count pages.old }
         ensures cause { IfErr result (HasCause (P.faults pages.old) (P.faults pages.new) (λ _ _ _. ⊥) (λ _. ⊥) (Unit {0})) }
         ensures heap { P.heap_fetches pages.new ≡ P.heap_fetches pages.old }
+        ensures fetches { P.fetches pages.new ≡ P.fetches pages.old }
         ensures quiet { StaysQuiet P.Pages pages.old pages.new }
     {
         pages.give(page)?;
@@ -199,6 +204,7 @@ impl Chain {
             → Holds (P.map pages.old) (P.count pages.old) kind self.now (front ++ (before, others) ∷ back) → ⊥) (λ _. ⊥) (Unit {0})) }
         ensures heap { P.heap_fetches pages.new ≤ P.heap_fetches pages.old + 1 }
         ensures other { kind ≢ 2 → IsSound result → P.heap_fetches pages.new ≡ P.heap_fetches pages.old }
+        ensures fetches { P.fetches pages.new ≤ P.fetches pages.old + 1 }
         ensures quiet { StaysQuiet P.Pages pages.old pages.new }
     {
         let mut slots = fetch_slots(pages, before, kind)?;
@@ -231,6 +237,7 @@ impl Chain {
             → HoldsBeside P.Pages pages.old kind self.old links free → entries_of links ≡ front ++ record { page = page; slot = slot; item = item } ∷ back
             → ¬ IsBehind before page (pages_of links)) (λ _. ⊥) (Unit {0})) }
         ensures other { kind ≢ 2 → IsSound result → P.heap_fetches pages.new ≡ P.heap_fetches pages.old }
+        ensures fetches { P.fetches pages.new ≤ P.fetches pages.old + 2 }
         ensures quiet { StaysQuiet P.Pages pages.old pages.new }
     {
         let slots = remove_item(pages, kind, page, slot)?;
@@ -263,6 +270,7 @@ impl Chain {
             (λ at expected found. P.tells → HoldsNone P.Pages pages.old kind self) (λ _. ⊥) (Unit {0})) }
         ensures ticks { P.heap_fetches pages.new + steps.old ≤ P.heap_fetches pages.old + steps.new }
         ensures most { steps.new ≤ steps.old + self.pages }
+        ensures fetches { P.fetches pages.new ≤ P.fetches pages.old + self.pages }
         ensures quiet { StaysQuiet P.Pages pages.old pages.new }
     {
         let mut page = self.first;

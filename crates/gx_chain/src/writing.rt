@@ -51,6 +51,7 @@ pub fn replace_item<P: Pages>(
     ensures count { P.count pages.new ≡ P.count pages.old }
     ensures heap { P.heap_fetches pages.new ≤ P.heap_fetches pages.old + 1 }
     ensures other { kind ≢ 2 → IsSound result → P.heap_fetches pages.new ≡ P.heap_fetches pages.old }
+    ensures fetches { P.fetches pages.new ≤ P.fetches pages.old + 1 }
     ensures quiet { StaysQuiet P.Pages pages.old pages.new }
 {
     let mut slots = fetch_slots(pages, page, kind)?;
@@ -85,6 +86,7 @@ pub fn remove_item<P: Pages>(
     ensures count { P.count pages.new ≡ P.count pages.old }
     ensures heap { P.heap_fetches pages.new ≤ P.heap_fetches pages.old + 1 }
     ensures other { kind ≢ 2 → IsSound result → P.heap_fetches pages.new ≡ P.heap_fetches pages.old }
+    ensures fetches { P.fetches pages.new ≤ P.fetches pages.old + 1 }
     ensures quiet { StaysQuiet P.Pages pages.old pages.new }
 {
     let mut slots = fetch_slots(pages, page, kind)?;

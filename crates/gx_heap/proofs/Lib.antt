@@ -7,3 +7,4 @@ mod Rows
 mod Runs
 mod Standing
 mod Sweeps
+mod Turns

@@ -1,5 +1,5 @@
 -- A heap: a list of rows by rising numbers, each in a slot of one of its pages.
-use Rattle.std.specs.Prelude.{◌≡◌, ◌≢◌, ◌⊎◌, ℕ, ◌+◌, ◌<◌, ◌≤◌, ◌==◌, if◌then◌else◌, not, slice_set, List, [], ◌∷◌, ◌++◌, length, map, take, drop, Option, Some, None}
+use Rattle.std.specs.Prelude.{◌≡◌, ◌≢◌, ◌⊎◌, ℕ, ◌+◌, ◌<◌, ◌≤◌, ◌==◌, ◌||◌, Bool, false, if◌then◌else◌, not, slice_set, List, [], ◌∷◌, ◌++◌, length, map, take, drop, Option, Some, None}
 use Rattle.std.specs.List.{AllByRecursion, filter, flat_map}
 use Rattle.gx_bytes.specs.Fields.{of64}
 use Rattle.gx_pages.specs.declared.store.Pages.{Ghosts}
@@ -84,6 +84,11 @@ turns page (row ∷ rows) = if row.page == page then turns page rows else 1 + tu
 abbrev pub runs : List RowRef → ℕ
 runs [] = 0
 runs (row ∷ rows) = 1 + turns row.page rows
+
+-- a row of these stands on the page
+abbrev pub is_on : ℕ → List RowRef → Bool
+is_on page [] = false
+is_on page (row ∷ rows) = (row.page == page) || is_on page rows
 
 -- The heap's last page has room for one more row: 4 bytes in the table, 8 for its number, and its own.
 abbrev pub HasRoomFor : PageMap → Heap → List ℕ → Type 0

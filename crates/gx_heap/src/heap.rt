@@ -41,6 +41,7 @@ impl Heap {
         ensures cause { IfErr result (HasCause (P.faults pages.old) (P.faults pages.new)
             (λ at expected found. P.tells → ListsNone P.Pages pages.old) (IsFull P.tells (P.map pages.new) (P.count pages.new)) (Unit {0})) }
         ensures heap { P.heap_fetches pages.new ≡ P.heap_fetches pages.old }
+        ensures fetches { P.fetches pages.new ≡ P.fetches pages.old }
         ensures quiet { StaysQuiet P.Pages pages.old pages.new }
     {
         let chain = Chain::create(pages, HEAP)?;
@@ -78,6 +79,7 @@ impl Heap {
             × (P.tells → (rows : List Row) (feet free : List ℕ) → HoldsHeap P.Pages pages.old self.old rows feet free → ¬ HasRoomFor (P.map pages.old) self.old row.now)) (Unit {0})) }
         ensures ticks { P.heap_fetches pages.new + steps.old ≤ P.heap_fetches pages.old + steps.new }
         ensures most { steps.new ≤ steps.old + 1 }
+        ensures fetches { P.fetches pages.new ≤ P.fetches pages.old + 1 }
         ensures quiet { StaysQuiet P.Pages pages.old pages.new }
     {
         let item = item_of(alloc, self.next, row)?;
@@ -229,6 +231,7 @@ impl Heap {
             (λ at expected found. P.tells → HoldsNoHeap P.Pages pages.old self.old) (λ _. ⊥) (Unit {0})) }
         ensures ticks { P.heap_fetches pages.new + steps.old ≤ P.heap_fetches pages.old + steps.new }
         ensures most { steps.new ≤ steps.old + (self.old.next + self.old.next) }
+        ensures fetches { P.fetches pages.new ≤ P.fetches pages.old + (self.old.next + self.old.next) }
         ensures quiet { StaysQuiet P.Pages pages.old pages.new }
     {
         let mut chain = to_chain(self);
@@ -250,6 +253,7 @@ impl Heap {
             (λ at expected found. P.tells → HoldsNoHeap P.Pages pages.old self) (λ _. ⊥) (Unit {0})) }
         ensures ticks { P.heap_fetches pages.new + steps.old ≤ P.heap_fetches pages.old + steps.new }
         ensures most { steps.new ≤ steps.old + self.next }
+        ensures fetches { P.fetches pages.new ≤ P.fetches pages.old + self.next }
         ensures quiet { StaysQuiet P.Pages pages.old pages.new }
     {
         let chain = to_chain(&self);

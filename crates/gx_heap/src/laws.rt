@@ -1,10 +1,13 @@
 //! Laws of heaps.
 
-ghost use Rattle.std.specs.Prelude.{◌≡◌, ℕ, List, [], ◌∷◌, ◌++◌};
+ghost use Rattle.std.specs.Prelude.{◌≡◌, ℕ, List, [], ◌∷◌, ◌++◌, length};
+ghost use Rattle.std.specs.List.{filter};
+ghost use Rattle.gx_pages.specs.declared.row.RowRef.{RowRef};
 ghost use Rattle.gx_pages.specs.Footprints.{KeepsPages};
 ghost use Rattle.gx_pages.specs.Frees.{IsApart};
+ghost use Rattle.gx_pages.specs.Rows.{IsRising};
 ghost use Rattle.gx_heap.specs.declared.heap.Heap.{Heap};
-ghost use Rattle.gx_heap.specs.Heaps.{Row, HoldsHeap, rows_in};
+ghost use Rattle.gx_heap.specs.Heaps.{Row, HoldsHeap, AreRows, is_on, rows_in, runs};
 
 use gx_pages::Pages;
 
@@ -19,6 +22,12 @@ pub fn one_heap<P: Pages>(_pages: &P)
 /// The rows of the heap's pages, page by page, are all its rows in order.
 pub fn whole_scan<P: Pages>(_pages: &P)
     ensures { (pages : P) (heap : Heap) (rows : List Row) (feet free : List ℕ) → HoldsHeap P.Pages pages heap rows feet free → rows_in feet rows ≡ rows }
+{}
+
+/// Rows of the heap by rising numbers stand in one run on each page: there are as many runs as pages with one of them.
+pub fn one_run_a_page<P: Pages>(_pages: &P)
+    ensures { (pages : P) (heap : Heap) (rows : List Row) (feet free : List ℕ) (some : List RowRef) → HoldsHeap P.Pages pages heap rows feet free → IsRising some → AreRows some rows
+        → runs some ≡ length (filter (λ page. is_on page some) feet) }
 {}
 
 /// Another structure on other pages was changed: the heap is held as before, beside the pages that are free then.

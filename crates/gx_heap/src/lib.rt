@@ -9,4 +9,4 @@ mod removal;
 mod vacuum;
 
 pub use heap::Heap;
-pub use laws::{heap_ends, heap_same, heap_stays, one_heap, whole_scan};
+pub use laws::{heap_ends, heap_same, heap_stays, one_heap, one_run_a_page, whole_scan};

@@ -28,6 +28,7 @@ pub fn drop_empty<P: Pages, L: Ledger>(
     ensures cause { IfErr result (HasCause (P.faults pages.old) (P.faults pages.new) (λ at expected found. P.tells → HoldsNone P.Pages pages.old 2 chain.old) (λ _. ⊥) (Unit {0})) }
     ensures ticks { P.heap_fetches pages.new + steps.old ≤ P.heap_fetches pages.old + steps.new }
     ensures most { steps.new ≤ steps.old + (chain.old.pages + chain.old.pages) }
+    ensures fetches { P.fetches pages.new ≤ P.fetches pages.old + (chain.old.pages + chain.old.pages) }
     ensures quiet { StaysQuiet P.Pages pages.old pages.new }
 {
     let mut trail = Trail::new();

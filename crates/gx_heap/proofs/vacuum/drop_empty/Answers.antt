@@ -17,6 +17,7 @@ loop-init g c = record {
   count = refl;
   ticks = omega arith;
   most = omega arith;
+  fetches = omega arith;
   quiet = quiet_none g.P.Pages g.met.P.Pages.follows_itself c.args.pages.now;
 }
 
@@ -52,6 +53,7 @@ loop-preserved-then-not-is_empty g c = record {
   bound = c.loop.invariant.bound;
   count = c.in_ok-slots.ensures.count ∙ c.loop.invariant.count;
   ticks = (let before = c.loop.invariant.ticks in let here = c.in_ok-slots.ensures.heap in let tick = c.tick.ensures in omega (arith, before, here, tick));
+  fetches = (let before = c.loop.invariant.fetches in let here = c.in_ok-slots.ensures.fetches in omega (arith, before, here));
   most = (let before = c.loop.invariant.most in let tick = c.tick.ensures in omega (arith, before, tick));
   quiet = quiet_join g.P.Pages g.met.P.Pages.follows_on c.args.pages.now c.loop.pages c.fetch_slots.new.pages c.loop.invariant.quiet c.in_ok-slots.ensures.quiet;
 }
@@ -67,6 +69,7 @@ loop-preserved-then-before-eq0 g c = record {
   bound = ap (λ (k : Chain). k.pages) c.in_ok-unlink_first.ensures.chain ∙ c.loop.invariant.bound;
   count = c.in_ok-unlink_first.ensures.count ∙ c.in_ok-slots.ensures.count ∙ c.loop.invariant.count;
   ticks = (let before = c.loop.invariant.ticks in let here = c.in_ok-slots.ensures.heap in let tick = c.tick.ensures in let still = c.in_ok-unlink_first.ensures.heap in omega (arith, before, here, tick, still));
+  fetches = (let before = c.loop.invariant.fetches in let here = c.in_ok-slots.ensures.fetches in let still = c.in_ok-unlink_first.ensures.fetches in omega (arith, before, here, still));
   most = (let before = c.loop.invariant.most in let tick = c.tick.ensures in omega (arith, before, tick));
   quiet = quiet_join g.P.Pages g.met.P.Pages.follows_on c.args.pages.now c.fetch_slots.new.pages c.unlink_first.new.pages (quiet_join g.P.Pages g.met.P.Pages.follows_on c.args.pages.now c.loop.pages c.fetch_slots.new.pages c.loop.invariant.quiet c.in_ok-slots.ensures.quiet) c.in_ok-unlink_first.ensures.quiet;
 }
@@ -93,6 +96,7 @@ loop-preserved g c = record {
   bound = c.loop.invariant.bound;
   count = c.in_ok-unlink_behind.ensures.count ∙ c.in_ok-slots.ensures.count ∙ c.loop.invariant.count;
   ticks = (let before = c.loop.invariant.ticks in let here = c.in_ok-slots.ensures.heap in let tick = c.tick.ensures in let more = c.in_ok-unlink_behind.ensures.heap in let again = c.tick-in-loop.ensures in omega (arith, before, here, tick, more, again));
+  fetches = (let before = c.loop.invariant.fetches in let here = c.in_ok-slots.ensures.fetches in let more = c.in_ok-unlink_behind.ensures.fetches in omega (arith, before, here, more));
   most = (let before = c.loop.invariant.most in let tick = c.tick.ensures in let again = c.tick-in-loop.ensures in omega (arith, before, tick, again));
   quiet = quiet_join g.P.Pages g.met.P.Pages.follows_on c.args.pages.now c.fetch_slots.new.pages c.unlink_behind.new.pages (quiet_join g.P.Pages g.met.P.Pages.follows_on c.args.pages.now c.loop.pages c.fetch_slots.new.pages c.loop.invariant.quiet c.in_ok-slots.ensures.quiet) c.in_ok-unlink_behind.ensures.quiet;
 }

@@ -13,5 +13,6 @@ invariant-loop g l = record {
   count : g.P.Pages.count l.pages ≡ g.P.Pages.count l.fn.pages;
   ticks : g.P.Pages.heap_fetches l.pages + l.fn.steps ≤ g.P.Pages.heap_fetches l.fn.pages + l.steps;
   most : l.steps ≤ l.fn.steps + (l.counter + l.counter);
+  fetches : g.P.Pages.fetches l.pages ≤ g.P.Pages.fetches l.fn.pages + (l.counter + l.counter);
   quiet : StaysQuiet g.P.Pages l.fn.pages l.pages;
 }

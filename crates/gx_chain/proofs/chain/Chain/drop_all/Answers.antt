@@ -39,6 +39,7 @@ loop-preserved g c =
       count = c.in_ok-give.ensures.count ∙ count ∙ c.loop.invariant.count;
       ticks = (let before = c.loop.invariant.ticks in let here = c.in_ok-slots.ensures.heap in let give = c.in_ok-give.ensures.heap in let tick = c.tick.ensures in omega (arith, before, here, give, tick));
       most = (let before = c.loop.invariant.most in let tick = c.tick.ensures in omega (arith, before, tick));
+      fetches = (let before = c.loop.invariant.fetches in let here = c.in_ok-slots.ensures.fetches in let give = c.in_ok-give.ensures.fetches in omega (arith, before, here, give));
       quiet = quiet_join g.P.Pages g.met.P.Pages.follows_on c.args.pages.now c.loop.pages c.give.new.self c.loop.invariant.quiet
           (quiet_join g.P.Pages g.met.P.Pages.follows_on c.loop.pages mid c.give.new.self c.in_ok-slots.ensures.quiet c.in_ok-give.ensures.quiet);
     }

@@ -59,6 +59,7 @@ loop-passed-preserved g c = record {
   map = c.in_ok-slots.ensures.map ∙ c.loop-passed.invariant.map;
   count = c.in_ok-slots.ensures.count ∙ c.loop-passed.invariant.count;
   other = λ other. c.in_ok-slots.ensures.other other tt ∙ c.loop-passed.invariant.other other;
+  fetches = (let before = c.loop-passed.invariant.fetches in let here = c.in_ok-slots.ensures.fetches in omega (arith, before, here));
   goes = inr c.if-next-eq0.false;
   quiet = quiet_join g.P.Pages g.met.P.Pages.follows_on c.args.pages.now c.loop-passed.pages c.fetch_slots.new.pages c.loop-passed.invariant.quiet c.in_ok-slots.ensures.quiet;
 }
