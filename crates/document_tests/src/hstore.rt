@@ -17,36 +17,38 @@ fn encoded(alloc: Global, hstore: &Hstore) -> Result<Bytes, NoMemory> {
     Ok(bytes)
 }
 
+/// A text, and the printed text of its map.
+const PRINTED: [(&'static str, &'static str); 19] = [
+    ("", ""),
+    ("bb=>1,a=>2, c => 3", r#""a"=>"2", "c"=>"3", "bb"=>"1""#),
+    (r#""a b"=>"c,d""#, r#""a b"=>"c,d""#),
+    (r#"""=>"""#, r#"""=>"""#),
+    (r#"k=>NuLL, l=>"null""#, r#""k"=>NULL, "l"=>"null""#),
+    (r"k=>nu\ll", r#""k"=>NULL"#),
+    (r"k=>null\ ", r#""k"=>"null ""#),
+    ("null=>1", r#""null"=>"1""#),
+    (r"a\ b=>c\,d", r#""a b"=>"c,d""#),
+    (r#""q\"r"=>"s\\t""#, r#""q\"r"=>"s\\t""#),
+    (r#""\é"=>\=\>"#, r#""é"=>"=>""#),
+    ("a=>1,a=>2", r#""a"=>"1""#),
+    (r#""a"=>1,\a=>null,a=>3"#, r#""a"=>"1""#),
+    (
+        r#"guest=>"Ada L.", vip=>null, vip=>2,"#,
+        r#""vip"=>NULL, "guest"=>"Ada L.""#,
+    ),
+    ("a=>1,", r#""a"=>"1""#),
+    ("\t\r\n\x0c a => 1 , \n", r#""a"=>"1""#),
+    ("é=>x,zz=>y", r#""zz"=>"y", "é"=>"x""#),
+    ("\x0b=>a\x0b", "\"\x0b\"=>\"a\x0b\""),
+    (
+        "{=>1,|=>1,}=>1,~=>1,_=>1,@=>1",
+        r#""@"=>"1", "_"=>"1", "{"=>"1", "|"=>"1", "}"=>"1", "~"=>"1""#,
+    ),
+];
+
 #[test]
 fn texts_and_their_printed_form(rt: HostRuntime) -> Result<(), Fail> {
-    let rows = [
-        ("", ""),
-        ("bb=>1,a=>2, c => 3", r#""a"=>"2", "c"=>"3", "bb"=>"1""#),
-        (r#""a b"=>"c,d""#, r#""a b"=>"c,d""#),
-        (r#"""=>"""#, r#"""=>"""#),
-        (r#"k=>NuLL, l=>"null""#, r#""k"=>NULL, "l"=>"null""#),
-        (r"k=>nu\ll", r#""k"=>NULL"#),
-        (r"k=>null\ ", r#""k"=>"null ""#),
-        ("null=>1", r#""null"=>"1""#),
-        (r"a\ b=>c\,d", r#""a b"=>"c,d""#),
-        (r#""q\"r"=>"s\\t""#, r#""q\"r"=>"s\\t""#),
-        (r#""\é"=>\=\>"#, r#""é"=>"=>""#),
-        ("a=>1,a=>2", r#""a"=>"1""#),
-        (r#""a"=>1,\a=>null,a=>3"#, r#""a"=>"1""#),
-        (
-            r#"guest=>"Ada L.", vip=>null, vip=>2,"#,
-            r#""vip"=>NULL, "guest"=>"Ada L.""#,
-        ),
-        ("a=>1,", r#""a"=>"1""#),
-        ("\t\r\n\x0c a => 1 , \n", r#""a"=>"1""#),
-        ("é=>x,zz=>y", r#""zz"=>"y", "é"=>"x""#),
-        ("\x0b=>a\x0b", "\"\x0b\"=>\"a\x0b\""),
-        (
-            "{=>1,|=>1,}=>1,~=>1,_=>1,@=>1",
-            r#""@"=>"1", "_"=>"1", "{"=>"1", "|"=>"1", "}"=>"1", "~"=>"1""#,
-        ),
-    ];
-    for (text, want) in rows {
+    for (text, want) in PRINTED {
         let hstore = Hstore::read(rt.alloc(), text)?;
         let found = printed(rt.alloc(), &hstore)?;
         assert!(rt; found.as_slice() == want.as_bytes(), "at {text}");
@@ -59,34 +61,36 @@ fn texts_and_their_printed_form(rt: HostRuntime) -> Result<(), Fail> {
     Ok(())
 }
 
+/// Texts that are no map.
+const REFUSED: [&'static str; 23] = [
+    " ",
+    ",",
+    "a",
+    "a=>",
+    "=>1",
+    "a=1",
+    "a= >1",
+    "a=>b c",
+    "a=>1 b=>2",
+    "a=>1,,b=>2",
+    "a=>1,,",
+    ",a=>1",
+    "\"a=>1",
+    "a=>1=>2",
+    "a=>1\"b\"",
+    "a\"b\"=>1",
+    "\"a\"b=>1",
+    "a=>1\\",
+    "a=>\"1\\",
+    "a=>\"1\\\"",
+    "\\",
+    "a>1",
+    "a=>>1",
+];
+
 #[test]
 fn texts_that_are_refused(rt: HostRuntime) -> Result<(), Fail> {
-    let texts = [
-        " ",
-        ",",
-        "a",
-        "a=>",
-        "=>1",
-        "a=1",
-        "a= >1",
-        "a=>b c",
-        "a=>1 b=>2",
-        "a=>1,,b=>2",
-        "a=>1,,",
-        ",a=>1",
-        "\"a=>1",
-        "a=>1=>2",
-        "a=>1\"b\"",
-        "a\"b\"=>1",
-        "\"a\"b=>1",
-        "a=>1\\",
-        "a=>\"1\\",
-        "a=>\"1\\\"",
-        "\\",
-        "a>1",
-        "a=>>1",
-    ];
-    for text in texts {
+    for text in REFUSED {
         assert!(rt;
             Hstore::read(rt.alloc(), text).err() == Some(ValueError::NoValue),
             "at {text}"
@@ -95,25 +99,26 @@ fn texts_that_are_refused(rt: HostRuntime) -> Result<(), Fail> {
     Ok(())
 }
 
+/// Two maps, and whether the first contains the second.
+const CONTAINED: [(&'static str, &'static str, bool); 13] = [
+    ("a=>1,b=>NULL", "a=>1", true),
+    ("a=>1,b=>NULL", "b=>NULL", true),
+    ("a=>1,b=>NULL", "a=>NULL", false),
+    ("a=>1,b=>NULL", "a=>2", false),
+    ("a=>1,b=>NULL", "", true),
+    ("a=>1,b=>NULL", "b=>NULL,a=>1", true),
+    ("a=>1,b=>NULL", "a=>1,c=>1", false),
+    (r#"a=>"NULL""#, "a=>NULL", false),
+    ("a=>NULL", r#"a=>"NULL""#, false),
+    ("a=>NULL", r#"a=>"""#, false),
+    ("aa=>1,b=>2,c=>3", "aa=>1,c=>3", true),
+    ("", "a=>1", false),
+    ("", "", true),
+];
+
 #[test]
 fn keys_and_maps_that_are_contained(rt: HostRuntime) -> Result<(), Fail> {
-    // Whether the first map contains the second one.
-    let rows = [
-        ("a=>1,b=>NULL", "a=>1", true),
-        ("a=>1,b=>NULL", "b=>NULL", true),
-        ("a=>1,b=>NULL", "a=>NULL", false),
-        ("a=>1,b=>NULL", "a=>2", false),
-        ("a=>1,b=>NULL", "", true),
-        ("a=>1,b=>NULL", "b=>NULL,a=>1", true),
-        ("a=>1,b=>NULL", "a=>1,c=>1", false),
-        (r#"a=>"NULL""#, "a=>NULL", false),
-        ("a=>NULL", r#"a=>"NULL""#, false),
-        ("a=>NULL", r#"a=>"""#, false),
-        ("aa=>1,b=>2,c=>3", "aa=>1,c=>3", true),
-        ("", "a=>1", false),
-        ("", "", true),
-    ];
-    for (left, right, contained) in rows {
+    for (left, right, contained) in CONTAINED {
         let a = Hstore::read(rt.alloc(), left)?;
         let b = Hstore::read(rt.alloc(), right)?;
         assert!(rt; a.contains(&b) == contained, "{left} and {right}");
@@ -131,20 +136,21 @@ fn keys_and_maps_that_are_contained(rt: HostRuntime) -> Result<(), Fail> {
     Ok(())
 }
 
+/// Keys, and whether the map has all of them and some.
+const KEYS: [(&'static [&'static str], bool, bool); 7] = [
+    (&["aa", "b"], true, true),
+    (&["aa", "c"], false, true),
+    (&["c", "aa"], false, true),
+    (&["c", "d"], false, false),
+    (&[""], true, true),
+    (&["a"], false, false),
+    (&[], true, false),
+];
+
 #[test]
 fn all_and_some_keys(rt: HostRuntime) -> Result<(), Fail> {
     let hstore = Hstore::read(rt.alloc(), "aa=>1,b=>NULL,\"\"=>2")?;
-    // Keys, and whether the map has all of them and some.
-    let rows = [
-        (["aa", "b"].as_slice(), true, true),
-        (&["aa", "c"], false, true),
-        (&["c", "aa"], false, true),
-        (&["c", "d"], false, false),
-        (&[""], true, true),
-        (&["a"], false, false),
-        (&[], true, false),
-    ];
-    for (keys, all, some) in rows {
+    for (keys, all, some) in KEYS {
         let mut bytes = Vec::new(rt.alloc());
         for key in keys {
             bytes.push(Bytes::from_slice(rt.alloc(), key.as_bytes())?)?;
@@ -170,6 +176,16 @@ fn pairs_in_printed_order(rt: HostRuntime) -> Result<(), Fail> {
     Ok(())
 }
 
+/// A map, a key, and whether the map has it.
+const WORKED: [(&'static str, &'static str, bool); 6] = [
+    (r#"guest=>"Ada L.", vip=>NULL"#, "guest", true),
+    (r#"guest=>"Ada L.", vip=>NULL"#, "vip", true),
+    ("guest=>Bo", "guest", true),
+    ("guest=>Bo", "vip", false),
+    ("k3=>v13", "k3", true),
+    ("k4=>v14", "k3", false),
+];
+
 #[test]
 fn keys_of_worked_rows(rt: HostRuntime) -> Result<(), Fail> {
     let letters =
@@ -181,15 +197,7 @@ fn keys_of_worked_rows(rt: HostRuntime) -> Result<(), Fail> {
         assert_eq!(rt; hstore.count(), count);
         assert_eq!(rt; hstore.has(b"zz"), there);
     }
-    let rows = [
-        (r#"guest=>"Ada L.", vip=>NULL"#, "guest", true),
-        (r#"guest=>"Ada L.", vip=>NULL"#, "vip", true),
-        ("guest=>Bo", "guest", true),
-        ("guest=>Bo", "vip", false),
-        ("k3=>v13", "k3", true),
-        ("k4=>v14", "k3", false),
-    ];
-    for (text, key, there) in rows {
+    for (text, key, there) in WORKED {
         let hstore = Hstore::read(rt.alloc(), text)?;
         assert_eq!(rt; hstore.has(key.as_bytes()), there, "{key} in {text}");
     }
@@ -218,15 +226,30 @@ fn lengths_of_two_bytes(rt: HostRuntime) -> Result<(), Fail> {
     Ok(())
 }
 
+/// A map, and its bytes.
+const ENCODED: [(&'static str, &'static [u8]); 4] = [
+    ("", b""),
+    ("a=>NULL", b"\x01a\x00"),
+    ("bb=>1,a=>\"\"", b"\x01a\x01\x00\x02bb\x01\x011"),
+    ("\"\"=>é", b"\x00\x01\x02\xc3\xa9"),
+];
+
+/// Bytes of no map: broken off, no byte of a value, keys that don't rise, no UTF-8, and a longer spelling of a length.
+const NO_BYTES: [&'static [u8]; 9] = [
+    b"\x01",
+    b"\x01a",
+    b"\x01a\x02",
+    b"\x01a\x01\x02b",
+    b"\x01a\x00\x01a\x00",
+    b"\x02aa\x00\x01b\x00",
+    b"\x01\xff\x00",
+    b"\x01a\x01\x01\xc3",
+    b"\x81\x00a\x00",
+];
+
 #[test]
 fn bytes_in_a_row(rt: HostRuntime) -> Result<(), Fail> {
-    let rows: [(&str, &[u8]); 4] = [
-        ("", b""),
-        ("a=>NULL", b"\x01a\x00"),
-        ("bb=>1,a=>\"\"", b"\x01a\x01\x00\x02bb\x01\x011"),
-        ("\"\"=>é", b"\x00\x01\x02\xc3\xa9"),
-    ];
-    for (text, want) in rows {
+    for (text, want) in ENCODED {
         let hstore = Hstore::read(rt.alloc(), text)?;
         let bytes = encoded(rt.alloc(), &hstore)?;
         assert!(rt; bytes.as_slice() == want, "at {text}");
@@ -236,19 +259,7 @@ fn bytes_in_a_row(rt: HostRuntime) -> Result<(), Fail> {
             "at {text}"
         );
     }
-    // Broken off, no byte of a value, keys that don't rise, no UTF-8, and a longer spelling of a length.
-    let others: [&[u8]; 9] = [
-        b"\x01",
-        b"\x01a",
-        b"\x01a\x02",
-        b"\x01a\x01\x02b",
-        b"\x01a\x00\x01a\x00",
-        b"\x02aa\x00\x01b\x00",
-        b"\x01\xff\x00",
-        b"\x01a\x01\x01\xc3",
-        b"\x81\x00a\x00",
-    ];
-    for bytes in others {
+    for bytes in NO_BYTES {
         assert!(rt; Hstore::decode(rt.alloc(), bytes)?.is_none());
     }
     Ok(())

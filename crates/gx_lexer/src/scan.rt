@@ -80,13 +80,30 @@ fn number_at(alloc: Global, first: u8, after: &[u8]) -> Result<(Option<Token>, u
     Ok((Some(Token::Number(digits)), n))
 }
 
+/// A byte and others as one text.
 fn joined(alloc: Global, first: u8, others: &[u8]) -> Result<Bytes, NoMemory>
     ensures { IfOk result (λ bytes. bytes ≡ first ∷ others.now) }
 {
-    let mut bytes = Bytes::new(alloc);
-    bytes.push(first)?;
-    bytes.extend_from_slice(others)?;
-    Ok(bytes)
+    if others.len() <= LONGEST_WORD {
+        joined_short(alloc, first, others)
+    } else {
+        let mut bytes = Bytes::new(alloc);
+        bytes.push(first)?;
+        bytes.extend_from_slice(others)?;
+        Ok(bytes)
+    }
+}
+
+/// The same by one allocation, where they are few.
+fn joined_short(alloc: Global, first: u8, others: &[u8]) -> Result<Bytes, NoMemory>
+    requires { length others.now < 63 }
+    ensures { IfOk result (λ bytes. bytes ≡ first ∷ others.now) }
+{
+    let mut bytes = [0u8; 63];
+    let n = others.len() + 1;
+    bytes[0] = first;
+    bytes[1..n].copy_from_slice(others);
+    Bytes::from_slice(alloc, &bytes[..n])
 }
 
 /// A text behind its first quote.

@@ -1,12 +1,14 @@
 //! CREATE INDEX, token by token.
 
-ghost use Rattle.std.specs.Prelude.{◌≡◌};
+ghost use Rattle.std.specs.Prelude.{◌≡◌, IfOk};
 ghost use Rattle.gx_parse.specs.Indexes as indexes;
 
+use crate::held::Held;
 use crate::statement::Parameter;
 use crate::words::{is_close, is_equal, is_open, is_word, name, number, word};
-use gx_bytes::Bytes;
+use gx_bytes::{Bytes, NoMemory};
 use gx_lexer::Token;
+use std::alloc::Global;
 
 /// CREATE INDEX up to its parenthesis, read as far as this.
 #[derive(Debug, Drop)]
@@ -61,43 +63,46 @@ pub enum IndexTail {
 #[derive(Debug, Drop)]
 pub enum IndexReader {
     Head(IndexHead),
-    Tail(IndexNames, IndexTail),
+    Tail(Held<IndexNames>, IndexTail),
 }
 
 impl IndexReader {
     /// One more token, if the statement goes on with it.
-    pub fn take(self, token: Token) -> Option<IndexReader>
-        ensures { result ≡ indexes.index_after self token }
+    pub fn take(self, alloc: Global, token: Token) -> Result<Option<IndexReader>, NoMemory>
+        ensures { IfOk result (λ next. next ≡ indexes.index_after self token) }
     {
         match self {
             IndexReader::Head(IndexHead::Open(name, table, method)) => {
-                column(name, table, method, token)
+                column(alloc, name, table, method, token)
             }
-            IndexReader::Head(head) => {
-                let head = head.take(token)?;
-                Some(IndexReader::Head(head))
-            }
-            IndexReader::Tail(names, tail) => {
-                let tail = tail.take(token)?;
-                Some(IndexReader::Tail(names, tail))
-            }
+            IndexReader::Head(head) => Ok(head.take(token).map(IndexReader::Head)),
+            IndexReader::Tail(names, tail) => match tail.take(token) {
+                Some(tail) => Ok(Some(IndexReader::Tail(names, tail))),
+                None => Ok(None),
+            },
         }
     }
 }
 
-fn column(index: Bytes, table: Bytes, method: Bytes, token: Token) -> Option<IndexReader>
-    ensures { result ≡ indexes.column index table method token }
+fn column(
+    alloc: Global,
+    index: Bytes,
+    table: Bytes,
+    method: Bytes,
+    token: Token,
+) -> Result<Option<IndexReader>, NoMemory>
+    ensures { IfOk result (λ next. next ≡ indexes.column index table method token) }
 {
-    let column = name(token)?;
-    Some(IndexReader::Tail(
-        IndexNames {
-            name: index,
-            table,
-            method,
-            column,
-        },
-        IndexTail::Column,
-    ))
+    let Some(column) = name(token) else {
+        return Ok(None);
+    };
+    let names = IndexNames {
+        name: index,
+        table,
+        method,
+        column,
+    };
+    Ok(Some(IndexReader::Tail(Held::new(alloc, names)?, IndexTail::Column)))
 }
 
 impl IndexHead {

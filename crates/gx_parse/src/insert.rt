@@ -5,6 +5,7 @@ ghost use Rattle.gx_parse.specs.Inserts as inserts;
 ghost use Rattle.gx_parse.specs.Literals as literals;
 
 use crate::given::GivenReader;
+use crate::held::Held;
 use crate::lists::{Names, with};
 use crate::statement::{GivenRow, GivenRows};
 use crate::words::{is_close, is_comma, is_open, is_word, name};
@@ -36,13 +37,13 @@ pub enum InsertReader {
     /// The list's `)`.
     Columns(Bytes, Names),
     /// VALUES, or a comma between rows.
-    Values(InsertParts),
+    Values(Held<InsertParts>),
     /// `(` or a comma of a row.
-    Value(InsertParts, GivenRow),
+    Value(Held<InsertParts>, GivenRow),
     /// A literal of a row.
-    Given(InsertParts, GivenRow, GivenReader),
+    Given(Held<InsertParts>, GivenRow, GivenReader),
     /// A row's `)`.
-    Closed(InsertParts),
+    Closed(Held<InsertParts>),
 }
 
 impl InsertReader {
@@ -53,12 +54,10 @@ impl InsertReader {
         match self {
             InsertReader::Begun => Ok(into(&token)),
             InsertReader::Into => Ok(table(token)),
-            InsertReader::Named(table) => Ok(behind_table(alloc, table, &token)),
+            InsertReader::Named(table) => behind_table(alloc, table, &token),
             InsertReader::Next(table, columns) => column(table, columns, token),
             InsertReader::Listed(table, columns) => Ok(behind_column(table, columns, &token)),
-            InsertReader::Columns(table, columns) => {
-                Ok(values(alloc, table, Some(columns), &token))
-            }
+            InsertReader::Columns(table, columns) => values(alloc, table, Some(columns), &token),
             InsertReader::Values(parts) => Ok(row(alloc, parts, &token)),
             InsertReader::Value(parts, row) => value(alloc, parts, row, token),
             InsertReader::Given(parts, row, given) => goes_on(alloc, parts, row, given, token),
@@ -84,11 +83,15 @@ fn table(token: Token) -> Option<InsertReader>
     Some(InsertReader::Named(table))
 }
 
-fn behind_table(alloc: Global, table: Bytes, token: &Token) -> Option<InsertReader>
-    ensures { result ≡ inserts.behind_table table token.now }
+fn behind_table(
+    alloc: Global,
+    table: Bytes,
+    token: &Token,
+) -> Result<Option<InsertReader>, NoMemory>
+    ensures { IfOk result (λ next. next ≡ inserts.behind_table table token.now) }
 {
     if is_open(token) {
-        Some(InsertReader::Next(table, Names::new(alloc)))
+        Ok(Some(InsertReader::Next(table, Names::new(alloc))))
     } else {
         values(alloc, table, None, token)
     }
@@ -99,17 +102,18 @@ fn values(
     table: Bytes,
     columns: Option<Names>,
     token: &Token,
-) -> Option<InsertReader>
-    ensures { result ≡ inserts.values table columns token.now }
+) -> Result<Option<InsertReader>, NoMemory>
+    ensures { IfOk result (λ next. next ≡ inserts.values table columns token.now) }
 {
     if is_word(token, b"values") {
-        Some(InsertReader::Values(InsertParts {
+        let parts = InsertParts {
             table,
             columns,
             rows: GivenRows::new(alloc),
-        }))
+        };
+        Ok(Some(InsertReader::Values(Held::new(alloc, parts)?)))
     } else {
-        None
+        Ok(None)
     }
 }
 
@@ -134,7 +138,7 @@ fn behind_column(table: Bytes, columns: Names, token: &Token) -> Option<InsertRe
     }
 }
 
-fn row(alloc: Global, parts: InsertParts, token: &Token) -> Option<InsertReader>
+fn row(alloc: Global, parts: Held<InsertParts>, token: &Token) -> Option<InsertReader>
     ensures { result ≡ inserts.row parts token.now }
 {
     if is_open(token) {
@@ -146,7 +150,7 @@ fn row(alloc: Global, parts: InsertParts, token: &Token) -> Option<InsertReader>
 
 fn value(
     alloc: Global,
-    parts: InsertParts,
+    parts: Held<InsertParts>,
     row: GivenRow,
     token: Token,
 ) -> Result<Option<InsertReader>, NoMemory>
@@ -160,7 +164,7 @@ fn value(
 
 fn goes_on(
     alloc: Global,
-    parts: InsertParts,
+    parts: Held<InsertParts>,
     row: GivenRow,
     given: GivenReader,
     token: Token,
@@ -173,12 +177,13 @@ fn goes_on(
             None => Ok(None),
         }
     } else {
-        ends(parts, row, given, &token)
+        ends(alloc, parts, row, given, &token)
     }
 }
 
 fn ends(
-    parts: InsertParts,
+    alloc: Global,
+    parts: Held<InsertParts>,
     row: GivenRow,
     given: GivenReader,
     token: &Token,
@@ -186,13 +191,14 @@ fn ends(
     ensures { IfOk result (λ next. next ≡ inserts.ends parts row token.now (literals.given_of given)) }
 {
     match given.finish() {
-        Some(given) => behind_value(parts, with(row, given)?, token),
+        Some(given) => behind_value(alloc, parts, with(row, given)?, token),
         None => Ok(None),
     }
 }
 
 fn behind_value(
-    parts: InsertParts,
+    alloc: Global,
+    parts: Held<InsertParts>,
     row: GivenRow,
     token: &Token,
 ) -> Result<Option<InsertReader>, NoMemory>
@@ -202,22 +208,24 @@ fn behind_value(
         return Ok(Some(InsertReader::Value(parts, row)));
     }
     if is_close(token) {
-        let InsertParts {
-            table,
-            columns,
-            rows,
-        } = parts;
-        let rows = with(rows, row)?;
-        return Ok(Some(InsertReader::Closed(InsertParts {
-            table,
-            columns,
-            rows,
-        })));
+        return Ok(Some(InsertReader::Closed(and_row(alloc, parts, row)?)));
     }
     Ok(None)
 }
 
-fn behind_row(parts: InsertParts, token: &Token) -> Option<InsertReader>
+fn and_row(
+    alloc: Global,
+    parts: Held<InsertParts>,
+    row: GivenRow,
+) -> Result<Held<InsertParts>, NoMemory>
+    ensures { IfOk result (λ longer. longer ≡ inserts.and_row parts row) }
+{
+    let mut parts = parts.into_inner();
+    parts.rows.push(row)?;
+    Held::new(alloc, parts)
+}
+
+fn behind_row(parts: Held<InsertParts>, token: &Token) -> Option<InsertReader>
     ensures { result ≡ inserts.behind_row parts token.now }
 {
     if is_comma(token) {

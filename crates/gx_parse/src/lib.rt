@@ -4,6 +4,7 @@
 mod condition;
 mod error;
 mod given;
+mod held;
 mod index;
 mod insert;
 mod law;

@@ -1,6 +1,6 @@
 //! From a piece to its statement.
 
-ghost use Rattle.std.specs.Prelude.{◌≡◌, ◌≤◌, ◌==◌, not, length, IfOk, MatchResult};
+ghost use Rattle.std.specs.Prelude.{◌≡◌, ◌≤◌, ◌==◌, not, length, Some, IfOk, MatchResult};
 ghost use Rattle.std.specs.List.{prefix_len};
 ghost use Rattle.std.specs.Str.Lossy.{utf8_valid_len};
 ghost use Rattle.gx_lexer.specs.Tokens.{placed};
@@ -43,8 +43,11 @@ fn read_piece(alloc: Global, piece: &[u8]) -> Result<Statement, ParseError>
         let Ok((token, n)) = first_at(alloc, *first, after) else {
             return Err(ParseError::Memory);
         };
-        reader = read(alloc, reader, token, at)?;
         rest = &after[n..];
+        let Some(token) = token else {
+            continue 'tokens;
+        };
+        reader = read(alloc, reader, token, at)?;
     }
     ended(alloc, reader, piece.len())
 }
@@ -75,18 +78,10 @@ fn utf8_len(piece: &[u8]) -> usize
     }
 }
 
-/// A token at a place, if there is one.
-fn read(
-    alloc: Global,
-    reader: Reader,
-    token: Option<Token>,
-    at: usize,
-) -> Result<Reader, ParseError>
-    ensures { MatchResult result (λ next. answers.ReadOn limits (state_of reader) (placed at token) (state_of next)) (λ e. answers.StopsAt limits (state_of reader) (placed at token) e) }
+/// A token at a place.
+fn read(alloc: Global, reader: Reader, token: Token, at: usize) -> Result<Reader, ParseError>
+    ensures { MatchResult result (λ next. answers.ReadOn limits (state_of reader) (placed at (Some token)) (state_of next)) (λ e. answers.StopsAt limits (state_of reader) (placed at (Some token)) e) }
 {
-    let Some(token) = token else {
-        return Ok(reader);
-    };
     match reader.take(alloc, token) {
         Ok(Outcome::Goes(next)) => Ok(next),
         Ok(Outcome::Wrong) => Err(ParseError::Syntax { at: at as u64 }),

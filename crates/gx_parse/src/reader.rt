@@ -8,6 +8,7 @@ ghost use Rattle.gx_parse.specs.States as states;
 ghost use Rattle.gx_parse.specs.Trees.{tree_of};
 
 use crate::condition::ConditionReader;
+use crate::held::Held;
 use crate::index::{IndexHead, IndexNames, IndexReader, IndexTail};
 use crate::insert::{InsertParts, InsertReader};
 use crate::outcome::Outcome;
@@ -62,7 +63,7 @@ pub enum Head {
 pub enum Reader {
     Head(Head),
     /// WHERE, and what follows it.
-    Where(Task, Bytes, ConditionReader),
+    Where(Task, Bytes, Held<ConditionReader>),
 }
 
 impl Reader {
@@ -72,7 +73,7 @@ impl Reader {
     {
         match self {
             Reader::Head(Head::Query(QueryReader::Named(task, table))) => {
-                Ok(where_taken(alloc, task, table, &token))
+                where_taken(alloc, task, table, &token)
             }
             Reader::Head(head) => head_taken(alloc, head, token),
             Reader::Where(task, table, condition) => {
@@ -87,7 +88,7 @@ impl Reader {
     {
         match self {
             Reader::Head(head) => Ok(head.finish()),
-            Reader::Where(task, table, condition) => match condition.finish(alloc)? {
+            Reader::Where(task, table, condition) => match condition.into_inner().finish(alloc)? {
                 Some(condition) => Ok(Some(queried(task, table, Some(condition)))),
                 None => Ok(None),
             },
@@ -95,13 +96,19 @@ impl Reader {
     }
 }
 
-fn where_taken(alloc: Global, task: Task, table: Bytes, token: &Token) -> Outcome<Reader>
-    ensures { outcome_map states.state_of result ≡ states.where_after task table token.now }
+fn where_taken(
+    alloc: Global,
+    task: Task,
+    table: Bytes,
+    token: &Token,
+) -> Result<Outcome<Reader>, NoMemory>
+    ensures { IfOk result (λ next. outcome_map states.state_of next ≡ states.where_after task table token.now) }
 {
     if is_word(token, b"where") {
-        Outcome::Goes(Reader::Where(task, table, ConditionReader::new(alloc)))
+        let condition = Held::new(alloc, ConditionReader::new(alloc))?;
+        Ok(Outcome::Goes(Reader::Where(task, table, condition)))
     } else {
-        Outcome::Wrong
+        Ok(Outcome::Wrong)
     }
 }
 
@@ -118,13 +125,20 @@ fn condition_taken(
     alloc: Global,
     task: Task,
     table: Bytes,
-    condition: ConditionReader,
+    condition: Held<ConditionReader>,
     token: Token,
 ) -> Result<Outcome<Reader>, NoMemory>
     ensures { IfOk result (λ next. outcome_map states.state_of next ≡ states.in_condition limits task table (conditions.standing_of condition) token) }
 {
-    match condition.take(alloc, token)? {
-        Outcome::Goes(condition) => Ok(Outcome::Goes(Reader::Where(task, table, condition))),
+    let mut condition = condition;
+    match condition
+        .replace(ConditionReader::new(alloc))
+        .take(alloc, token)?
+    {
+        Outcome::Goes(next) => {
+            condition.replace(next);
+            Ok(Outcome::Goes(Reader::Where(task, table, condition)))
+        }
         Outcome::Wrong => Ok(Outcome::Wrong),
         Outcome::Deep => Ok(Outcome::Deep),
     }
@@ -142,7 +156,7 @@ impl Head {
             Head::Verb(verb) => Ok(named(verb, token)),
             Head::Named(..) => Ok(None),
             Head::Table(table) => Ok(table.take(alloc, token)?.map(Head::Table)),
-            Head::Index(index) => Ok(index.take(token).map(Head::Index)),
+            Head::Index(index) => Ok(index.take(alloc, token)?.map(Head::Index)),
             Head::Insert(insert) => Ok(insert.take(alloc, token)?.map(Head::Insert)),
             Head::Query(query) => Ok(query.take(alloc, token)?.map(Head::Query)),
         }
@@ -278,7 +292,7 @@ fn index_finished(index: IndexReader) -> Option<Statement>
     ensures { option_map said_of result ≡ states.index_said index }
 {
     match index {
-        IndexReader::Tail(names, tail) => tail_finished(names, tail),
+        IndexReader::Tail(names, tail) => tail_finished(names.into_inner(), tail),
         IndexReader::Head(_) => None,
     }
 }
@@ -287,7 +301,7 @@ fn insert_finished(insert: InsertReader) -> Option<Statement>
     ensures { option_map said_of result ≡ states.insert_said insert }
 {
     match insert {
-        InsertReader::Closed(parts) => Some(inserted(parts)),
+        InsertReader::Closed(parts) => Some(inserted(parts.into_inner())),
         _ => None,
     }
 }

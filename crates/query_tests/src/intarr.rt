@@ -5,20 +5,21 @@ use gx_intarr::{IntArray, IntQuery, QueryInt, Texts};
 use std::alloc::Global;
 use std::test::Fail;
 
+/// An array text, the count of its elements, and each with a semicolon behind it.
+const ELEMENTS: [(&'static str, usize, &'static str); 8] = [
+    ("{}", 0, ""),
+    (" \t{}\n", 0, ""),
+    ("{a}", 1, "a;"),
+    ("{ a b ,c\n}", 2, "a b;c;"),
+    ("{\"\",\"NULL\",nulls}", 3, ";NULL;nulls;"),
+    ("{\"a,{}\\\"\\\\\\b \"}", 1, "a,{}\"\\b ;"),
+    ("{\"1\", 2}", 2, "1;2;"),
+    ("{\x0ba}", 1, "\x0ba;"),
+];
+
 #[test]
 fn elements_of_array_texts(rt: HostRuntime) -> Result<(), Fail> {
-    // The count of the elements, and each with a semicolon behind it.
-    let rows = [
-        ("{}", 0, ""),
-        (" \t{}\n", 0, ""),
-        ("{a}", 1, "a;"),
-        ("{ a b ,c\n}", 2, "a b;c;"),
-        ("{\"\",\"NULL\",nulls}", 3, ";NULL;nulls;"),
-        ("{\"a,{}\\\"\\\\\\b \"}", 1, "a,{}\"\\b ;"),
-        ("{\"1\", 2}", 2, "1;2;"),
-        ("{\x0ba}", 1, "\x0ba;"),
-    ];
-    for (text, count, want) in rows {
+    for (text, count, want) in ELEMENTS {
         let texts = Texts::read(rt.alloc(), text)?;
         assert_eq!(rt; texts.count(), count, "at {text}");
         assert!(rt; texts.text(count).is_none(), "at {text}");
@@ -32,35 +33,37 @@ fn elements_of_array_texts(rt: HostRuntime) -> Result<(), Fail> {
     Ok(())
 }
 
+/// Texts that are no array texts.
+const NO_ARRAYS: [&'static str; 24] = [
+    "",
+    " ",
+    "{",
+    "}",
+    "{ }",
+    "{,}",
+    "{a,}",
+    "{,a}",
+    "{a",
+    "a}",
+    "{a}}",
+    "{{a}}",
+    "{a}b",
+    "{null}",
+    "{a,NuLL}",
+    "{a\\b}",
+    "{a\"b\"}",
+    "{\"a\"b}",
+    "{\"a\" }",
+    "{ \"a\"}",
+    "{\"a\\\"}",
+    "{\"a}",
+    "{a, }",
+    "()",
+];
+
 #[test]
 fn array_texts_that_are_refused(rt: HostRuntime) {
-    let texts = [
-        "",
-        " ",
-        "{",
-        "}",
-        "{ }",
-        "{,}",
-        "{a,}",
-        "{,a}",
-        "{a",
-        "a}",
-        "{a}}",
-        "{{a}}",
-        "{a}b",
-        "{null}",
-        "{a,NuLL}",
-        "{a\\b}",
-        "{a\"b\"}",
-        "{\"a\"b}",
-        "{\"a\" }",
-        "{ \"a\"}",
-        "{\"a\\\"}",
-        "{\"a}",
-        "{a, }",
-        "()",
-    ];
-    for text in texts {
+    for text in NO_ARRAYS {
         assert!(rt;
             Texts::read(rt.alloc(), text).err() == Some(ValueError::NoValue),
             "at {text}"
@@ -68,18 +71,20 @@ fn array_texts_that_are_refused(rt: HostRuntime) {
     }
 }
 
+/// An array, and its printed text.
+const PRINTED: [(&'static str, &'static str); 4] = [
+    ("{}", "{}"),
+    (" { 1 ,-2, 003 } ", "{1,-2,3}"),
+    ("{\"1\",\" +7 \"}", "{1,7}"),
+    (
+        "{2147483647,-2147483648,0,0}",
+        "{2147483647,-2147483648,0,0}",
+    ),
+];
+
 #[test]
 fn arrays_are_printed(rt: HostRuntime) -> Result<(), Fail> {
-    let rows = [
-        ("{}", "{}"),
-        (" { 1 ,-2, 003 } ", "{1,-2,3}"),
-        ("{\"1\",\" +7 \"}", "{1,7}"),
-        (
-            "{2147483647,-2147483648,0,0}",
-            "{2147483647,-2147483648,0,0}",
-        ),
-    ];
-    for (text, want) in rows {
+    for (text, want) in PRINTED {
         let array = IntArray::read(rt.alloc(), text)?;
         let mut printed = Bytes::new(rt.alloc());
         array.print(&mut printed)?;
@@ -92,22 +97,24 @@ fn arrays_are_printed(rt: HostRuntime) -> Result<(), Fail> {
     Ok(())
 }
 
+/// A text, and why it is no array of int4.
+const REFUSED: [(&'static str, ValueError); 11] = [
+    ("{1", ValueError::NoValue),
+    ("{1,x}", ValueError::NoValue),
+    ("{1,NULL}", ValueError::NoValue),
+    ("{1 2}", ValueError::NoValue),
+    ("{{1}}", ValueError::NoValue),
+    ("{2147483648}", ValueError::OutOfRange),
+    ("{1,-2147483649,x}", ValueError::OutOfRange),
+    ("{x,2147483648}", ValueError::NoValue),
+    ("{2147483648,}", ValueError::NoValue),
+    ("{99999999999999999999}", ValueError::OutOfRange),
+    ("{\x0b1}", ValueError::NoValue),
+];
+
 #[test]
 fn arrays_that_are_refused(rt: HostRuntime) {
-    let rows = [
-        ("{1", ValueError::NoValue),
-        ("{1,x}", ValueError::NoValue),
-        ("{1,NULL}", ValueError::NoValue),
-        ("{1 2}", ValueError::NoValue),
-        ("{{1}}", ValueError::NoValue),
-        ("{2147483648}", ValueError::OutOfRange),
-        ("{1,-2147483649,x}", ValueError::OutOfRange),
-        ("{x,2147483648}", ValueError::NoValue),
-        ("{2147483648,}", ValueError::NoValue),
-        ("{99999999999999999999}", ValueError::OutOfRange),
-        ("{\x0b1}", ValueError::NoValue),
-    ];
-    for (text, want) in rows {
+    for (text, want) in REFUSED {
         assert!(rt;
             IntArray::read(rt.alloc(), text).err() == Some(want),
             "at {text}"
@@ -171,36 +178,37 @@ fn arrays_of_given_parts(rt: HostRuntime) -> Result<(), Fail> {
     Ok(())
 }
 
+/// Two arrays, and whether the first overlaps the second, contains it, and is the same.
+const PAIRS: [(&'static str, &'static str, [bool; 3]); 24] = [
+    ("{}", "{}", [false, true, true]),
+    ("{}", "{1}", [false, false, false]),
+    ("{1}", "{}", [false, true, false]),
+    ("{1,2,3}", "{3}", [true, true, false]),
+    ("{3}", "{1,2,3}", [true, false, false]),
+    ("{1,2,3}", "{3,4}", [true, false, false]),
+    ("{1,2}", "{2,1}", [true, true, false]),
+    ("{1,1}", "{1}", [true, true, false]),
+    ("{1}", "{1,1}", [true, true, false]),
+    ("{5,-7,9}", "{5,-7,9}", [true, true, true]),
+    ("{2147483647,4}", "{-2147483648,5}", [false, false, false]),
+    ("{}", "{1,2}", [false, false, false]),
+    ("{}", "{2,1}", [false, false, false]),
+    ("{}", "{3}", [false, false, false]),
+    ("{2,1}", "{2,1}", [true, true, true]),
+    ("{3}", "{2,1}", [false, false, false]),
+    ("{1,100}", "{50}", [false, false, false]),
+    ("{200}", "{50}", [false, false, false]),
+    ("{1}", "{1}", [true, true, true]),
+    ("{33}", "{1}", [false, false, false]),
+    ("{9,10,2003}", "{10}", [true, true, false]),
+    ("{33,34,2003}", "{2003,33}", [true, true, false]),
+    ("{1,2,2001,2002}", "{1,2,2001}", [true, true, false]),
+    ("{4,5,2004}", "{4,5,2004}", [true, true, true]),
+];
+
 #[test]
 fn operators_of_arrays(rt: HostRuntime) -> Result<(), Fail> {
-    // Whether the first overlaps the second, contains it, and is the same.
-    let rows = [
-        ("{}", "{}", [false, true, true]),
-        ("{}", "{1}", [false, false, false]),
-        ("{1}", "{}", [false, true, false]),
-        ("{1,2,3}", "{3}", [true, true, false]),
-        ("{3}", "{1,2,3}", [true, false, false]),
-        ("{1,2,3}", "{3,4}", [true, false, false]),
-        ("{1,2}", "{2,1}", [true, true, false]),
-        ("{1,1}", "{1}", [true, true, false]),
-        ("{1}", "{1,1}", [true, true, false]),
-        ("{5,-7,9}", "{5,-7,9}", [true, true, true]),
-        ("{2147483647,4}", "{-2147483648,5}", [false, false, false]),
-        ("{}", "{1,2}", [false, false, false]),
-        ("{}", "{2,1}", [false, false, false]),
-        ("{}", "{3}", [false, false, false]),
-        ("{2,1}", "{2,1}", [true, true, true]),
-        ("{3}", "{2,1}", [false, false, false]),
-        ("{1,100}", "{50}", [false, false, false]),
-        ("{200}", "{50}", [false, false, false]),
-        ("{1}", "{1}", [true, true, true]),
-        ("{33}", "{1}", [false, false, false]),
-        ("{9,10,2003}", "{10}", [true, true, false]),
-        ("{33,34,2003}", "{2003,33}", [true, true, false]),
-        ("{1,2,2001,2002}", "{1,2,2001}", [true, true, false]),
-        ("{4,5,2004}", "{4,5,2004}", [true, true, true]),
-    ];
-    for (left, right, wants) in rows {
+    for (left, right, wants) in PAIRS {
         let a = IntArray::read(rt.alloc(), left)?;
         let b = IntArray::read(rt.alloc(), right)?;
         let answers = [a.overlaps(&b), a.contains(&b), a.same(&b)];
@@ -209,24 +217,25 @@ fn operators_of_arrays(rt: HostRuntime) -> Result<(), Fail> {
     Ok(())
 }
 
+/// A query, and whether `{}`, `{1}`, `{1,2}`, `{-3,2}` and `{7}` match.
+const QUERIES: [(&'static str, [bool; 5]); 9] = [
+    ("1", [false, true, true, false, false]),
+    ("!1", [true, false, false, true, true]),
+    ("1 & 2", [false, false, true, false, false]),
+    (" -3 | ! ( 1|2 ) ", [true, false, false, true, true]),
+    ("007|1&2", [false, false, true, false, true]),
+    ("(7|1)&2", [false, false, true, false, false]),
+    ("!!2&!-3", [false, false, true, false, false]),
+    (
+        "-2147483648 | 2147483647",
+        [false, false, false, false, false],
+    ),
+    ("010 | 7", [false, false, false, false, true]),
+];
+
 #[test]
 fn queries_over_arrays(rt: HostRuntime) -> Result<(), Fail> {
-    // Whether `{}`, `{1}`, `{1,2}`, `{-3,2}` and `{7}` match.
-    let rows = [
-        ("1", [false, true, true, false, false]),
-        ("!1", [true, false, false, true, true]),
-        ("1 & 2", [false, false, true, false, false]),
-        (" -3 | ! ( 1|2 ) ", [true, false, false, true, true]),
-        ("007|1&2", [false, false, true, false, true]),
-        ("(7|1)&2", [false, false, true, false, false]),
-        ("!!2&!-3", [false, false, true, false, false]),
-        (
-            "-2147483648 | 2147483647",
-            [false, false, false, false, false],
-        ),
-        ("010 | 7", [false, false, false, false, true]),
-    ];
-    for (text, wants) in rows {
+    for (text, wants) in QUERIES {
         let query = QueryInt::read(rt.alloc(), text)?;
         for (array, want) in ["{}", "{1}", "{1,2}", "{-3,2}", "{7}"]
             .iter()
@@ -249,32 +258,34 @@ fn queries_over_arrays(rt: HostRuntime) -> Result<(), Fail> {
     Ok(())
 }
 
+/// A text, and why it is no query.
+const NO_QUERIES: [(&'static str, ValueError); 21] = [
+    ("", ValueError::NoValue),
+    (" ", ValueError::NoValue),
+    ("1 2", ValueError::NoValue),
+    ("1-2", ValueError::NoValue),
+    ("- 1", ValueError::NoValue),
+    ("--1", ValueError::NoValue),
+    ("+1", ValueError::NoValue),
+    ("1a", ValueError::NoValue),
+    ("-", ValueError::NoValue),
+    ("1\x0b", ValueError::NoValue),
+    ("(1", ValueError::NoValue),
+    ("1)", ValueError::NoValue),
+    ("1 & & 2", ValueError::NoValue),
+    ("2147483648", ValueError::OutOfRange),
+    ("-2147483649", ValueError::OutOfRange),
+    ("1&(2|!2147483648", ValueError::OutOfRange),
+    ("99999999999999999999 )", ValueError::OutOfRange),
+    ("1 2147483648", ValueError::NoValue),
+    ("1) & 2147483648", ValueError::NoValue),
+    ("1 & | 2147483648", ValueError::NoValue),
+    ("(1) 2147483648", ValueError::NoValue),
+];
+
 #[test]
 fn queries_that_are_refused(rt: HostRuntime) {
-    let rows = [
-        ("", ValueError::NoValue),
-        (" ", ValueError::NoValue),
-        ("1 2", ValueError::NoValue),
-        ("1-2", ValueError::NoValue),
-        ("- 1", ValueError::NoValue),
-        ("--1", ValueError::NoValue),
-        ("+1", ValueError::NoValue),
-        ("1a", ValueError::NoValue),
-        ("-", ValueError::NoValue),
-        ("1\x0b", ValueError::NoValue),
-        ("(1", ValueError::NoValue),
-        ("1)", ValueError::NoValue),
-        ("1 & & 2", ValueError::NoValue),
-        ("2147483648", ValueError::OutOfRange),
-        ("-2147483649", ValueError::OutOfRange),
-        ("1&(2|!2147483648", ValueError::OutOfRange),
-        ("99999999999999999999 )", ValueError::OutOfRange),
-        ("1 2147483648", ValueError::NoValue),
-        ("1) & 2147483648", ValueError::NoValue),
-        ("1 & | 2147483648", ValueError::NoValue),
-        ("(1) 2147483648", ValueError::NoValue),
-    ];
-    for (text, want) in rows {
+    for (text, want) in NO_QUERIES {
         assert!(rt;
             QueryInt::read(rt.alloc(), text).err() == Some(want),
             "at {text}"
@@ -292,24 +303,26 @@ fn repeated(alloc: Global, part: &str, count: usize, end: &str) -> Result<String
     Ok(text)
 }
 
+/// A part of a query, how many times it stands before another, and why the whole is refused.
+const LIMITS: [(&'static str, usize, &'static str, Option<ValueError>); 13] = [
+    ("!", 64, "1", None),
+    ("!", 64, "2147483648", Some(ValueError::OutOfRange)),
+    ("!", 65, "2147483648", Some(ValueError::TooDeep)),
+    ("(", 65, "1", Some(ValueError::TooDeep)),
+    ("(!", 32, "1", Some(ValueError::NoValue)),
+    ("(!", 32, "(1", Some(ValueError::TooDeep)),
+    ("1|2&", 512, "1", None),
+    ("1|2&", 512, "1|", Some(ValueError::TooDeep)),
+    ("1|", 1024, "1", None),
+    ("1|", 1025, "1", Some(ValueError::TooDeep)),
+    ("1|", 1024, "2147483648|", Some(ValueError::OutOfRange)),
+    ("1|", 1025, "2147483648", Some(ValueError::TooDeep)),
+    ("1|", 1024, "1 2147483648", Some(ValueError::NoValue)),
+];
+
 #[test]
 fn limits_of_queries(rt: HostRuntime) -> Result<(), Fail> {
-    let rows = [
-        ("!", 64, "1", None),
-        ("!", 64, "2147483648", Some(ValueError::OutOfRange)),
-        ("!", 65, "2147483648", Some(ValueError::TooDeep)),
-        ("(", 65, "1", Some(ValueError::TooDeep)),
-        ("(!", 32, "1", Some(ValueError::NoValue)),
-        ("(!", 32, "(1", Some(ValueError::TooDeep)),
-        ("1|2&", 512, "1", None),
-        ("1|2&", 512, "1|", Some(ValueError::TooDeep)),
-        ("1|", 1024, "1", None),
-        ("1|", 1025, "1", Some(ValueError::TooDeep)),
-        ("1|", 1024, "2147483648|", Some(ValueError::OutOfRange)),
-        ("1|", 1025, "2147483648", Some(ValueError::TooDeep)),
-        ("1|", 1024, "1 2147483648", Some(ValueError::NoValue)),
-    ];
-    for (part, count, end, want) in rows {
+    for (part, count, end, want) in LIMITS {
         let text = repeated(rt.alloc(), part, count, end)?;
         assert!(rt;
             QueryInt::read(rt.alloc(), text.as_str()).err() == want,
@@ -323,19 +336,20 @@ fn limits_of_queries(rt: HostRuntime) -> Result<(), Fail> {
     Ok(())
 }
 
+/// An array, and whether `&&`, `@>`, `<@` and `=` hold with it on the right.
+const OPERANDS: [(&'static str, bool, bool, bool, bool); 5] = [
+    ("{3,5}", true, false, false, false),
+    ("{1,3}", true, true, true, false),
+    ("{3,1,3}", true, true, true, true),
+    ("{1,2,3}", true, false, true, false),
+    ("{}", false, true, false, false),
+];
+
 #[test]
 fn operators_of_every_operand(rt: HostRuntime) -> Result<(), Fail> {
     let set = IntArray::read(rt.alloc(), "{3,1,3}")?.copy(rt.alloc())?;
     assert!(rt; set.distinct(rt.alloc())?.as_slice() == [1, 3].as_slice());
-    // Whether `&&`, `@>`, `<@` and `=` hold.
-    let rows = [
-        ("{3,5}", true, false, false, false),
-        ("{1,3}", true, true, true, false),
-        ("{3,1,3}", true, true, true, true),
-        ("{1,2,3}", true, false, true, false),
-        ("{}", false, true, false, false),
-    ];
-    for (text, overlaps, contains, within, equal) in rows {
+    for (text, overlaps, contains, within, equal) in OPERANDS {
         let query = IntQuery::Overlaps(IntArray::read(rt.alloc(), text)?);
         assert_eq!(rt; query.holds(&set), overlaps, "{text}");
         let query = IntQuery::Contains(IntArray::read(rt.alloc(), text)?);

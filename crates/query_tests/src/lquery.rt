@@ -12,44 +12,47 @@ fn is_match(alloc: Global, path: &str, query: &str) -> Result<bool, Fail> {
     Ok(query.matches(alloc, &path)?)
 }
 
+/// A path, and whether the query matches it.
+const PATHS: [(&'static str, bool); 6] = [
+    ("Top.Sport.Hockey.Russia", true),
+    ("Top.A.B.SPORTS.x.y.Spain", true),
+    ("Top.A.B.C.sport.x.Spain", false),
+    ("Top.sport.hockey.football.Spain", false),
+    ("Top.sport.Spain", false),
+    ("Top.sport.hockey.Spains", false),
+];
+
 #[test]
 fn counts_variants_and_negation(rt: HostRuntime) -> Result<(), Fail> {
     let query = "Top.*{0,2}.sport*@.!football|tennis{1,}.Russ*|Spain";
-    let rows = [
-        ("Top.Sport.Hockey.Russia", true),
-        ("Top.A.B.SPORTS.x.y.Spain", true),
-        ("Top.A.B.C.sport.x.Spain", false),
-        ("Top.sport.hockey.football.Spain", false),
-        ("Top.sport.Spain", false),
-        ("Top.sport.hockey.Spains", false),
-    ];
-    for (path, want) in rows {
+    for (path, want) in PATHS {
         assert_eq!(rt; is_match(rt.alloc(), path, query)?, want, "at {path}");
     }
     Ok(())
 }
 
+/// A query, and whether the empty path, `a`, `a.b`, `A.B.c` and `b.a` match.
+const ITEMS: [(&'static str, [bool; 5]); 15] = [
+    ("*", [true, true, true, true, true]),
+    ("*{1,}", [false, true, true, true, true]),
+    ("a", [false, true, false, false, false]),
+    ("a.*", [false, true, true, false, false]),
+    ("*.a", [false, true, false, false, true]),
+    ("A@.*{1}", [false, false, true, false, false]),
+    ("a@*{0,}.*{2,2}", [false, false, true, true, true]),
+    ("*{2}", [false, false, true, false, true]),
+    ("*{,1}", [true, true, false, false, false]),
+    ("!a", [false, false, false, false, false]),
+    ("!a.*", [false, false, false, true, true]),
+    ("a|b{2}", [false, false, true, false, true]),
+    ("!a|b{1,}", [false, false, false, true, false]),
+    ("!x{0,}", [true, true, true, true, true]),
+    ("a{02}", [false, false, false, false, false]),
+];
+
 #[test]
 fn items_one_by_one(rt: HostRuntime) -> Result<(), Fail> {
-    // Whether the empty path, `a`, `a.b`, `A.B.c` and `b.a` match.
-    let rows = [
-        ("*", [true, true, true, true, true]),
-        ("*{1,}", [false, true, true, true, true]),
-        ("a", [false, true, false, false, false]),
-        ("a.*", [false, true, true, false, false]),
-        ("*.a", [false, true, false, false, true]),
-        ("A@.*{1}", [false, false, true, false, false]),
-        ("a@*{0,}.*{2,2}", [false, false, true, true, true]),
-        ("*{2}", [false, false, true, false, true]),
-        ("*{,1}", [true, true, false, false, false]),
-        ("!a", [false, false, false, false, false]),
-        ("!a.*", [false, false, false, true, true]),
-        ("a|b{2}", [false, false, true, false, true]),
-        ("!a|b{1,}", [false, false, false, true, false]),
-        ("!x{0,}", [true, true, true, true, true]),
-        ("a{02}", [false, false, false, false, false]),
-    ];
-    for (query, wants) in rows {
+    for (query, wants) in ITEMS {
         for (path, want) in ["", "a", "a.b", "A.B.c", "b.a"].iter().zip(wants.iter()) {
             assert_eq!(rt;
                 is_match(rt.alloc(), path, query)?,
@@ -61,38 +64,40 @@ fn items_one_by_one(rt: HostRuntime) -> Result<(), Fail> {
     Ok(())
 }
 
+/// Texts that are no query.
+const REFUSED: [&'static str; 27] = [
+    "",
+    ".",
+    "a.",
+    ".a",
+    "*{}",
+    "*{2,1}",
+    "*{,}",
+    "!*",
+    "!",
+    "a||b",
+    "|a",
+    "!!a",
+    "a{1",
+    "a{-1}",
+    "a b",
+    " a",
+    "*@",
+    "*{65536}",
+    "*{0,65536}",
+    "a{ 1}",
+    "a%",
+    "a@b",
+    "**",
+    "a{1}{1}",
+    "a{1}b",
+    "a{1,2,3}",
+    "a}",
+];
+
 #[test]
 fn texts_that_are_refused(rt: HostRuntime) {
-    let rows = [
-        "",
-        ".",
-        "a.",
-        ".a",
-        "*{}",
-        "*{2,1}",
-        "*{,}",
-        "!*",
-        "!",
-        "a||b",
-        "|a",
-        "!!a",
-        "a{1",
-        "a{-1}",
-        "a b",
-        " a",
-        "*@",
-        "*{65536}",
-        "*{0,65536}",
-        "a{ 1}",
-        "a%",
-        "a@b",
-        "**",
-        "a{1}{1}",
-        "a{1}b",
-        "a{1,2,3}",
-        "a}",
-    ];
-    for text in rows {
+    for text in REFUSED {
         assert!(rt;
             Lquery::read(rt.alloc(), text).err() == Some(ValueError::NoValue),
             "at {text}"

@@ -62,19 +62,20 @@ fn the_longest_label_and_the_longest_path(rt: HostRuntime) -> Result<(), Fail> {
     Ok(())
 }
 
+/// Two paths in rising order, and whether the first is a prefix of the second.
+const RISING: [(&'static str, &'static str, bool); 7] = [
+    ("", "B", true),
+    ("B", "a", false),
+    ("a", "a.b", true),
+    ("a.b", "a.b.c", true),
+    ("a.b", "a-b", false),
+    ("a-b", "b", false),
+    ("a.b", "aa", false),
+];
+
 #[test]
 fn order_and_prefixes(rt: HostRuntime) -> Result<(), Fail> {
-    // In rising order; and whether the first is a prefix of the second.
-    let rows = [
-        ("", "B", true),
-        ("B", "a", false),
-        ("a", "a.b", true),
-        ("a.b", "a.b.c", true),
-        ("a.b", "a-b", false),
-        ("a-b", "b", false),
-        ("a.b", "aa", false),
-    ];
-    for (left, right, above) in rows {
+    for (left, right, above) in RISING {
         let a = Path::read(rt.alloc(), left)?;
         let b = Path::read(rt.alloc(), right)?;
         assert!(rt; a.compare(&b) == Ordering::Less, "{left} and {right}");
@@ -100,15 +101,16 @@ fn labels_one_by_one(rt: HostRuntime) -> Result<(), Fail> {
     Ok(())
 }
 
+/// Two paths, and whether `< <= = >= > @> <@` hold.
+const OPERATORS: [(&'static str, &'static str, [bool; 7]); 4] = [
+    ("a", "a.b", [true, true, false, false, false, true, false]),
+    ("a.b", "a.b", [false, true, true, true, false, true, true]),
+    ("a.b", "a", [false, false, false, true, true, false, true]),
+    ("b", "a.b", [false, false, false, true, true, false, false]),
+];
+
 #[test]
 fn operators_between_paths(rt: HostRuntime) -> Result<(), Fail> {
-    // Whether `< <= = >= > @> <@` hold.
-    let rows = [
-        ("a", "a.b", [true, true, false, false, false, true, false]),
-        ("a.b", "a.b", [false, true, true, true, false, true, true]),
-        ("a.b", "a", [false, false, false, true, true, false, true]),
-        ("b", "a.b", [false, false, false, true, true, false, false]),
-    ];
     let ops = [
         LtreeOp::Less,
         LtreeOp::LessEqual,
@@ -118,7 +120,7 @@ fn operators_between_paths(rt: HostRuntime) -> Result<(), Fail> {
         LtreeOp::Above,
         LtreeOp::Below,
     ];
-    for (left, right, wants) in rows {
+    for (left, right, wants) in OPERATORS {
         let value = Path::read(rt.alloc(), left)?.copy(rt.alloc())?;
         let operand = Path::read(rt.alloc(), right)?;
         for (op, want) in ops.iter().zip(wants.iter()) {

@@ -7,21 +7,22 @@ use gx_ltxtquery::{LtreeQuery, Ltxtquery};
 use std::alloc::Global;
 use std::test::Fail;
 
+/// A formula, and whether the empty path, `a`, `a.b`, `A.B.c` and `b.a` match.
+const FORMULAS: [(&'static str, [bool; 5]); 9] = [
+    ("a", [false, true, true, false, true]),
+    ("a@", [false, true, true, true, true]),
+    ("a & b", [false, false, true, false, true]),
+    ("!a", [true, false, false, true, false]),
+    (" c | ! ( a@ ) ", [true, false, false, true, false]),
+    ("c | a & b", [false, false, true, true, true]),
+    ("(c | a) & b", [false, false, true, false, true]),
+    ("!a & !c", [true, false, false, false, false]),
+    ("!!b@*@\n|\tx", [false, false, true, true, true]),
+];
+
 #[test]
 fn formulas_over_paths(rt: HostRuntime) -> Result<(), Fail> {
-    // Whether the empty path, `a`, `a.b`, `A.B.c` and `b.a` match.
-    let rows = [
-        ("a", [false, true, true, false, true]),
-        ("a@", [false, true, true, true, true]),
-        ("a & b", [false, false, true, false, true]),
-        ("!a", [true, false, false, true, false]),
-        (" c | ! ( a@ ) ", [true, false, false, true, false]),
-        ("c | a & b", [false, false, true, true, true]),
-        ("(c | a) & b", [false, false, true, false, true]),
-        ("!a & !c", [true, false, false, false, false]),
-        ("!!b@*@\n|\tx", [false, false, true, true, true]),
-    ];
-    for (text, wants) in rows {
+    for (text, wants) in FORMULAS {
         let query = Ltxtquery::read(rt.alloc(), text)?;
         for (path, want) in ["", "a", "a.b", "A.B.c", "b.a"].iter().zip(wants.iter()) {
             let path = Path::read(rt.alloc(), path)?;
@@ -54,23 +55,25 @@ fn repeated(alloc: Global, part: &str, count: usize, end: &str) -> Result<String
     Ok(text)
 }
 
+/// A part of a formula, how many times it stands before another, and why the whole is refused.
+const LIMITS: [(&'static str, usize, &'static str, Option<ValueError>); 12] = [
+    ("!", 64, "a", None),
+    ("!", 65, "a", Some(ValueError::TooDeep)),
+    ("!", 65, "%", Some(ValueError::TooDeep)),
+    ("(", 64, "a", Some(ValueError::NoValue)),
+    ("(", 65, "a", Some(ValueError::TooDeep)),
+    ("(a)&", 1024, "a", None),
+    ("a|", 1024, "a", None),
+    ("a|", 1025, "a", Some(ValueError::TooDeep)),
+    ("a|", 1024, "a b", Some(ValueError::NoValue)),
+    ("a|", 1024, "&", Some(ValueError::NoValue)),
+    ("a", 1000, "", None),
+    ("a", 1001, "", Some(ValueError::NoValue)),
+];
+
 #[test]
 fn limits(rt: HostRuntime) -> Result<(), Fail> {
-    let rows = [
-        ("!", 64, "a", None),
-        ("!", 65, "a", Some(ValueError::TooDeep)),
-        ("!", 65, "%", Some(ValueError::TooDeep)),
-        ("(", 64, "a", Some(ValueError::NoValue)),
-        ("(", 65, "a", Some(ValueError::TooDeep)),
-        ("(a)&", 1024, "a", None),
-        ("a|", 1024, "a", None),
-        ("a|", 1025, "a", Some(ValueError::TooDeep)),
-        ("a|", 1024, "a b", Some(ValueError::NoValue)),
-        ("a|", 1024, "&", Some(ValueError::NoValue)),
-        ("a", 1000, "", None),
-        ("a", 1001, "", Some(ValueError::NoValue)),
-    ];
-    for (part, count, end, want) in rows {
+    for (part, count, end, want) in LIMITS {
         let text = repeated(rt.alloc(), part, count, end)?;
         assert!(rt;
             Ltxtquery::read(rt.alloc(), text.as_str()).err() == want,

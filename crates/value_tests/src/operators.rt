@@ -68,44 +68,45 @@ fn is_so_of_text(
     is_so(rt.alloc(), column, op, value, &literal)
 }
 
+/// A column, an operator, a value, an operand, and whether the operator holds.
+const SCALARS: [(ColumnType, Operator, &'static str, &'static str, bool); 8] = [
+    (ColumnType::Int4, Operator::Less, "-5", "5", true),
+    (ColumnType::Int4, Operator::GreaterEqual, "5", "5", true),
+    (
+        ColumnType::Int8,
+        Operator::NotEqual,
+        "2147483648",
+        "2147483648",
+        false,
+    ),
+    (ColumnType::Text, Operator::Less, "a", "ab", true),
+    (ColumnType::Text, Operator::Greater, "b", "B", true),
+    (
+        ColumnType::Bytea,
+        Operator::LessEqual,
+        "\\xff",
+        "\\xff00",
+        true,
+    ),
+    (
+        ColumnType::Date,
+        Operator::Greater,
+        "2024-03-01",
+        "2024-02-29",
+        true,
+    ),
+    (
+        ColumnType::Uuid,
+        Operator::Equal,
+        "a0eebc99-9c0b-4ef8-bb6d-6bb9bd380a11",
+        "A0EEBC999C0B4EF8BB6D6BB9BD380A11",
+        true,
+    ),
+];
+
 #[test]
 fn scalars(rt: HostRuntime) -> Result<(), Fail> {
-    let uuid = "a0eebc99-9c0b-4ef8-bb6d-6bb9bd380a11";
-    let rows = [
-        (ColumnType::Int4, Operator::Less, "-5", "5", true),
-        (ColumnType::Int4, Operator::GreaterEqual, "5", "5", true),
-        (
-            ColumnType::Int8,
-            Operator::NotEqual,
-            "2147483648",
-            "2147483648",
-            false,
-        ),
-        (ColumnType::Text, Operator::Less, "a", "ab", true),
-        (ColumnType::Text, Operator::Greater, "b", "B", true),
-        (
-            ColumnType::Bytea,
-            Operator::LessEqual,
-            "\\xff",
-            "\\xff00",
-            true,
-        ),
-        (
-            ColumnType::Date,
-            Operator::Greater,
-            "2024-03-01",
-            "2024-02-29",
-            true,
-        ),
-        (
-            ColumnType::Uuid,
-            Operator::Equal,
-            uuid,
-            "A0EEBC999C0B4EF8BB6D6BB9BD380A11",
-            true,
-        ),
-    ];
-    for (column, op, value, text, want) in rows {
+    for (column, op, value, text, want) in SCALARS {
         assert!(rt;
             is_so_of_text(&rt, column, op, value, text)? == want,
             "at {value} {op:?} {text}"
@@ -114,21 +115,23 @@ fn scalars(rt: HostRuntime) -> Result<(), Fail> {
     Ok(())
 }
 
+/// An operator, a value, an operand, and whether the operator holds.
+const RANGES: [(Operator, &'static str, &'static str, bool); 10] = [
+    (Operator::Equal, "[1,5)", "[1,4]", true),
+    (Operator::Overlaps, "[1,5)", "[4,9)", true),
+    (Operator::Contains, "[1,9)", "empty", true),
+    (Operator::Within, "[2,3)", "[1,9)", true),
+    (Operator::Left, "[1,5)", "[5,9)", true),
+    (Operator::Right, "[5,9)", "[1,6)", false),
+    (Operator::NotRight, "[1,5)", "[3,5)", true),
+    (Operator::NotLeft, "[3,5)", "[1,5)", true),
+    (Operator::Adjacent, "[1,5)", "[5,9)", true),
+    (Operator::Adjacent, "empty", "[5,9)", false),
+];
+
 #[test]
 fn ranges(rt: HostRuntime) -> Result<(), Fail> {
-    let rows = [
-        (Operator::Equal, "[1,5)", "[1,4]", true),
-        (Operator::Overlaps, "[1,5)", "[4,9)", true),
-        (Operator::Contains, "[1,9)", "empty", true),
-        (Operator::Within, "[2,3)", "[1,9)", true),
-        (Operator::Left, "[1,5)", "[5,9)", true),
-        (Operator::Right, "[5,9)", "[1,6)", false),
-        (Operator::NotRight, "[1,5)", "[3,5)", true),
-        (Operator::NotLeft, "[3,5)", "[1,5)", true),
-        (Operator::Adjacent, "[1,5)", "[5,9)", true),
-        (Operator::Adjacent, "empty", "[5,9)", false),
-    ];
-    for (op, value, text, want) in rows {
+    for (op, value, text, want) in RANGES {
         assert!(rt;
             is_so_of_text(&rt, ColumnType::Int4Range, op, value, text)? == want,
             "at {value} {op:?} {text}"
@@ -190,22 +193,24 @@ fn elements_of_ranges(rt: HostRuntime) -> Result<(), Fail> {
     Ok(())
 }
 
+/// An operator, a value, an operand, and whether the operator holds.
+const NETWORKS: [(Operator, &'static str, &'static str, bool); 11] = [
+    (Operator::Equal, "10.0.0.0/8", "10.0.0.0/8", true),
+    (Operator::NotEqual, "10.0.0.0/8", "10.0.0.0/16", true),
+    (Operator::Less, "9.255.0.0", "10.0.0.0/16", true),
+    (Operator::LessEqual, "10.0.0.1/16", "10.0.0.0/16", false),
+    (Operator::Greater, "::", "255.255.255.255", true),
+    (Operator::GreaterEqual, "10.0.0.1/16", "10.0.0.1/16", true),
+    (Operator::Left, "10.0.0.0/16", "10.0.0.0/8", true),
+    (Operator::LeftEqual, "10.0.0.0/8", "10.0.0.0/8", true),
+    (Operator::Right, "10.0.0.0/8", "10.0.0.7", true),
+    (Operator::RightEqual, "10.0.0.0/16", "10.0.0.0/8", false),
+    (Operator::Overlaps, "10.0.0.0/8", "10.128.0.0/9", true),
+];
+
 #[test]
 fn networks(rt: HostRuntime) -> Result<(), Fail> {
-    let rows = [
-        (Operator::Equal, "10.0.0.0/8", "10.0.0.0/8", true),
-        (Operator::NotEqual, "10.0.0.0/8", "10.0.0.0/16", true),
-        (Operator::Less, "9.255.0.0", "10.0.0.0/16", true),
-        (Operator::LessEqual, "10.0.0.1/16", "10.0.0.0/16", false),
-        (Operator::Greater, "::", "255.255.255.255", true),
-        (Operator::GreaterEqual, "10.0.0.1/16", "10.0.0.1/16", true),
-        (Operator::Left, "10.0.0.0/16", "10.0.0.0/8", true),
-        (Operator::LeftEqual, "10.0.0.0/8", "10.0.0.0/8", true),
-        (Operator::Right, "10.0.0.0/8", "10.0.0.7", true),
-        (Operator::RightEqual, "10.0.0.0/16", "10.0.0.0/8", false),
-        (Operator::Overlaps, "10.0.0.0/8", "10.128.0.0/9", true),
-    ];
-    for (op, value, text, want) in rows {
+    for (op, value, text, want) in NETWORKS {
         assert!(rt;
             is_so_of_text(&rt, ColumnType::Inet, op, value, text)? == want,
             "at {value} {op:?} {text}"
@@ -214,24 +219,26 @@ fn networks(rt: HostRuntime) -> Result<(), Fail> {
     Ok(())
 }
 
+/// An operator, a value, an operand, and whether the operator holds.
+const PATHS: [(Operator, &'static str, &'static str, bool); 13] = [
+    (Operator::Less, "a", "a.b", true),
+    (Operator::LessEqual, "a.b", "a.b", true),
+    (Operator::Equal, "A", "a", false),
+    (Operator::GreaterEqual, "b", "a.b", true),
+    (Operator::Greater, "b", "b", false),
+    (Operator::Contains, "a", "a.b", true),
+    (Operator::Within, "a.b", "a", true),
+    (Operator::Matches, "A.B.c", "a@.*{1}.c", true),
+    (Operator::Matches, "a.b", "!b.a", false),
+    (Operator::Has, "a.b", "{a,\"*{2}\"}", true),
+    (Operator::Has, "a.b", "{}", false),
+    (Operator::Words, "a.b", "a & !c", true),
+    (Operator::Words, "Abc", "ab@*", true),
+];
+
 #[test]
 fn paths(rt: HostRuntime) -> Result<(), Fail> {
-    let rows = [
-        (Operator::Less, "a", "a.b", true),
-        (Operator::LessEqual, "a.b", "a.b", true),
-        (Operator::Equal, "A", "a", false),
-        (Operator::GreaterEqual, "b", "a.b", true),
-        (Operator::Greater, "b", "b", false),
-        (Operator::Contains, "a", "a.b", true),
-        (Operator::Within, "a.b", "a", true),
-        (Operator::Matches, "A.B.c", "a@.*{1}.c", true),
-        (Operator::Matches, "a.b", "!b.a", false),
-        (Operator::Has, "a.b", "{a,\"*{2}\"}", true),
-        (Operator::Has, "a.b", "{}", false),
-        (Operator::Words, "a.b", "a & !c", true),
-        (Operator::Words, "Abc", "ab@*", true),
-    ];
-    for (op, value, text, want) in rows {
+    for (op, value, text, want) in PATHS {
         assert!(rt;
             is_so_of_text(&rt, ColumnType::Ltree, op, value, text)? == want,
             "at {value} {op:?} {text}"
@@ -250,19 +257,21 @@ fn paths(rt: HostRuntime) -> Result<(), Fail> {
     Ok(())
 }
 
+/// An operator, a value, an operand, and whether the operator holds.
+const MAPS: [(Operator, &'static str, &'static str, bool); 8] = [
+    (Operator::Contains, "a=>1,b=>NULL", "b=>NULL", true),
+    (Operator::Contains, "a=>1,b=>NULL", "a=>NULL", false),
+    (Operator::Contains, "", "", true),
+    (Operator::Has, "a=>1,b=>NULL", "b", true),
+    (Operator::HasAll, "a=>1,b=>NULL", "{a,b}", true),
+    (Operator::HasAll, "a=>2", "{a,b}", false),
+    (Operator::HasAny, "a=>2", "{b,\"a\"}", true),
+    (Operator::HasAny, "a=>2", "{}", false),
+];
+
 #[test]
 fn maps(rt: HostRuntime) -> Result<(), Fail> {
-    let rows = [
-        (Operator::Contains, "a=>1,b=>NULL", "b=>NULL", true),
-        (Operator::Contains, "a=>1,b=>NULL", "a=>NULL", false),
-        (Operator::Contains, "", "", true),
-        (Operator::Has, "a=>1,b=>NULL", "b", true),
-        (Operator::HasAll, "a=>1,b=>NULL", "{a,b}", true),
-        (Operator::HasAll, "a=>2", "{a,b}", false),
-        (Operator::HasAny, "a=>2", "{b,\"a\"}", true),
-        (Operator::HasAny, "a=>2", "{}", false),
-    ];
-    for (op, value, text, want) in rows {
+    for (op, value, text, want) in MAPS {
         assert!(rt;
             is_so_of_text(&rt, ColumnType::Hstore, op, value, text)? == want,
             "at {value} {op:?} {text}"
@@ -281,26 +290,28 @@ fn maps(rt: HostRuntime) -> Result<(), Fail> {
     Ok(())
 }
 
+/// An operator, a value, an operand, and whether the operator holds.
+const DOCUMENTS: [(Operator, &'static str, &'static str, bool); 10] = [
+    (
+        Operator::Contains,
+        "{\"a\":[1,{\"b\":2}],\"c\":null}",
+        "{\"a\":[{\"b\":2}]}",
+        true,
+    ),
+    (Operator::Contains, "{\"a\":[1]}", "{\"a\":1}", false),
+    (Operator::Contains, "[1,2]", "2", true),
+    (Operator::Contains, "1", "[1]", false),
+    (Operator::Has, "[\"a\",\"b\"]", "a", true),
+    (Operator::Has, "\"a\"", "a", true),
+    (Operator::Has, "1", "1", false),
+    (Operator::HasAll, "{\"a\":1,\"b\":2}", "{a,b}", true),
+    (Operator::HasAll, "1", "{}", true),
+    (Operator::HasAny, "{\"a\":1}", "{b,c}", false),
+];
+
 #[test]
 fn documents(rt: HostRuntime) -> Result<(), Fail> {
-    let rows = [
-        (
-            Operator::Contains,
-            "{\"a\":[1,{\"b\":2}],\"c\":null}",
-            "{\"a\":[{\"b\":2}]}",
-            true,
-        ),
-        (Operator::Contains, "{\"a\":[1]}", "{\"a\":1}", false),
-        (Operator::Contains, "[1,2]", "2", true),
-        (Operator::Contains, "1", "[1]", false),
-        (Operator::Has, "[\"a\",\"b\"]", "a", true),
-        (Operator::Has, "\"a\"", "a", true),
-        (Operator::Has, "1", "1", false),
-        (Operator::HasAll, "{\"a\":1,\"b\":2}", "{a,b}", true),
-        (Operator::HasAll, "1", "{}", true),
-        (Operator::HasAny, "{\"a\":1}", "{b,c}", false),
-    ];
-    for (op, value, text, want) in rows {
+    for (op, value, text, want) in DOCUMENTS {
         assert!(rt;
             is_so_of_text(&rt, ColumnType::Jsonb, op, value, text)? == want,
             "at {value} {op:?} {text}"
@@ -309,19 +320,21 @@ fn documents(rt: HostRuntime) -> Result<(), Fail> {
     Ok(())
 }
 
+/// An operator, a value, an operand, and whether the operator holds.
+const ARRAYS: [(Operator, &'static str, &'static str, bool); 8] = [
+    (Operator::Overlaps, "{1,2}", "{2,9}", true),
+    (Operator::Overlaps, "{1,2}", "{}", false),
+    (Operator::Contains, "{1,2}", "{2,1,1}", true),
+    (Operator::Within, "{2,2,1}", "{3,2,1}", true),
+    (Operator::Equal, "{2,2,1}", "{1,2}", false),
+    (Operator::Equal, "{}", "{}", true),
+    (Operator::Formula, "{-5,3}", "1 & !3 | -5", true),
+    (Operator::Formula, "{1,2}", "(1|3)&!2", false),
+];
+
 #[test]
 fn arrays(rt: HostRuntime) -> Result<(), Fail> {
-    let rows = [
-        (Operator::Overlaps, "{1,2}", "{2,9}", true),
-        (Operator::Overlaps, "{1,2}", "{}", false),
-        (Operator::Contains, "{1,2}", "{2,1,1}", true),
-        (Operator::Within, "{2,2,1}", "{3,2,1}", true),
-        (Operator::Equal, "{2,2,1}", "{1,2}", false),
-        (Operator::Equal, "{}", "{}", true),
-        (Operator::Formula, "{-5,3}", "1 & !3 | -5", true),
-        (Operator::Formula, "{1,2}", "(1|3)&!2", false),
-    ];
-    for (op, value, text, want) in rows {
+    for (op, value, text, want) in ARRAYS {
         assert!(rt;
             is_so_of_text(&rt, ColumnType::Int4Array, op, value, text)? == want,
             "at {value} {op:?} {text}"
@@ -340,32 +353,62 @@ fn arrays(rt: HostRuntime) -> Result<(), Fail> {
     Ok(())
 }
 
+/// A column, an operator, a text, and why it is no operand.
+const REFUSED: [(ColumnType, Operator, &'static str, Fault); 9] = [
+    (
+        ColumnType::Int4Array,
+        Operator::Formula,
+        "",
+        Fault::Value(ValueError::NoValue),
+    ),
+    (
+        ColumnType::Int4Array,
+        Operator::Formula,
+        "+1",
+        Fault::Value(ValueError::NoValue),
+    ),
+    (
+        ColumnType::Int4Array,
+        Operator::Formula,
+        "2147483648",
+        Fault::Value(ValueError::OutOfRange),
+    ),
+    (
+        ColumnType::Hstore,
+        Operator::HasAll,
+        "{a,NULL}",
+        Fault::Value(ValueError::NoValue),
+    ),
+    (
+        ColumnType::Ltree,
+        Operator::Has,
+        "{a,!}",
+        Fault::Value(ValueError::NoValue),
+    ),
+    (
+        ColumnType::Ltree,
+        Operator::Words,
+        "a &",
+        Fault::Value(ValueError::NoValue),
+    ),
+    (
+        ColumnType::Ltree,
+        Operator::Matches,
+        "a{2,1}",
+        Fault::Value(ValueError::NoValue),
+    ),
+    (
+        ColumnType::Int8,
+        Operator::Equal,
+        "9223372036854775808",
+        Fault::Value(ValueError::OutOfRange),
+    ),
+    (ColumnType::Int4, Operator::Formula, "1", Fault::NoOperator),
+];
+
 #[test]
 fn operands_that_are_refused(rt: HostRuntime) -> Result<(), Fail> {
-    let none = Fault::Value(ValueError::NoValue);
-    let outside = Fault::Value(ValueError::OutOfRange);
-    let rows = [
-        (ColumnType::Int4Array, Operator::Formula, "", none),
-        (ColumnType::Int4Array, Operator::Formula, "+1", none),
-        (
-            ColumnType::Int4Array,
-            Operator::Formula,
-            "2147483648",
-            outside,
-        ),
-        (ColumnType::Hstore, Operator::HasAll, "{a,NULL}", none),
-        (ColumnType::Ltree, Operator::Has, "{a,!}", none),
-        (ColumnType::Ltree, Operator::Words, "a &", none),
-        (ColumnType::Ltree, Operator::Matches, "a{2,1}", none),
-        (
-            ColumnType::Int8,
-            Operator::Equal,
-            "9223372036854775808",
-            outside,
-        ),
-        (ColumnType::Int4, Operator::Formula, "1", Fault::NoOperator),
-    ];
-    for (column, op, text, want) in rows {
+    for (column, op, text, want) in REFUSED {
         let literal = text_literal(rt.alloc(), text.as_bytes())?;
         let refused = operand_of(rt.alloc(), column, op, &literal).err();
         assert!(rt; refused == Some(want), "at {op:?} {text}");
