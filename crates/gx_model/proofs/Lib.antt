@@ -11,3 +11,7 @@ mod TurnsValid
 mod OneCost
 mod TruthLemmas
 mod OneRun
+mod Coming
+mod ComingRows
+mod EachTurn
+pub mod WholePlans

@@ -98,7 +98,7 @@ all_typed : (columns cs targets : List Column) (row : List Given) (values : List
 all_typed columns [] targets row values r t n = tt
 all_typed columns (c ∷ cs) targets row values r t n = (typed columns targets row values c r t n.0, all_typed columns cs targets row values r t n.1)
 
-is_row : (columns targets : List Column) (row : List Given) (fields : List (Option Datum)) → ReadsRow columns targets row fields → AllByRecursion (IsNamed columns) targets → AllByRecursion (IsNamed columns) columns
+pub is_row : (columns targets : List Column) (row : List Given) (fields : List (Option Datum)) → ReadsRow columns targets row fields → AllByRecursion (IsNamed columns) targets → AllByRecursion (IsNamed columns) columns
     → IsRow (map (λ c. c.kind) columns) fields
 is_row columns targets row fields r t n =
     subst (λ (fs : List (Option Datum)). IsRow (map (λ c. c.kind) columns) fs) (sym r.2) (all_typed columns columns targets row r.0 r.1 t n)

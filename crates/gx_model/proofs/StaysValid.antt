@@ -227,7 +227,7 @@ index_dropped db name v = valid_tables (without_index db name) v.tables v.names 
 
 -- CREATE INDEX: there is no class to choose.
 
-none_chosen : (o : Option Method) (kind : ColumnType) (word : Option (List ℕ)) → option_and_then (λ m. class_among [] m kind word) o ≡ None
+pub none_chosen : (o : Option Method) (kind : ColumnType) (word : Option (List ℕ)) → option_and_then (λ m. class_among [] m kind word) o ≡ None
 none_chosen None kind word = refl
 none_chosen (Some m) kind None = refl
 none_chosen (Some m) kind (Some w) = refl

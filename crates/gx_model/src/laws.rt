@@ -15,6 +15,7 @@ ghost use Rattle.gx_model.specs.Database.{Database, Table, Row, IsIn, IsValid, t
 ghost use Rattle.gx_model.specs.Replies.{line, row_line};
 ghost use Rattle.gx_model.specs.Runs.{State, Done, AreDone, HasRoom};
 ghost use Rattle.gx_model.specs.Steps.{Stepped, Steps, Accepts, select_all, HasShortNames};
+ghost use Rattle.gx_model.specs.Totality.{AreTotal};
 ghost use Rattle.gx_model.specs.Truth.{Bound, Operand, Truth, Unknown, rank, and_of, or_of, not_of, truth_of_atom, selects};
 ghost use Rattle.gx_model.specs.Turns.{Session, AreValid, session_over, refused_in, Turned, Turns, TurnCosts, reading_of};
 ghost use Rattle.gx_model.specs.Values.{named, ReadsRows};
@@ -59,6 +60,15 @@ pub fn one_turn()
     gx_value::one_answer();
     gx_value::one_row();
     gx_opr::one_operand();
+}
+
+/// Every statement that is read steps a valid database, and every piece turns a valid session, where each literal is read or
+/// refused and each row has its bytes.
+pub fn each_turn()
+    ensures step { AreTotal → (db : Database) (said : Said) → IsValid db → IsSound said → (stepped : Stepped) × Steps db said stepped }
+    ensures turn { AreTotal → (session : Session) (piece : List ℕ) → AreValid session → (turned : Turned) × Turns session piece turned }
+{
+    gx_parse::sound_statements();
 }
 
 /// Every step of a valid database leaves a valid one, where the names that the statement gives are no longer than names may

@@ -5,7 +5,7 @@ mod laws;
 mod refusal;
 
 pub use laws::{
-    deleted_rows, inserted_rows, one_run, one_turn, refused_changes_nothing, rolled_back,
-    stays_valid, three_values,
+    deleted_rows, each_turn, inserted_rows, one_run, one_turn, refused_changes_nothing,
+    rolled_back, stays_valid, three_values,
 };
 pub use refusal::Refusal;

@@ -1,12 +1,14 @@
 -- Bound conditions without their boxes, and which of them can be asked of the rows of a table.
-use Rattle.std.specs.Prelude.{◌≡◌, true, List, map, Option, None, Some, option_map, IsSomeAnd}
+use Rattle.std.specs.Prelude.{◌≡◌, ◌⊎◌, true, List, map, Option, None, Some, option_map, IsSomeAnd}
 use Rattle.std.specs.List.{slice_get}
 use Rattle.gx_value.specs.declared.fields.Column.{Column}
 use Rattle.gx_value.specs.declared.types.ColumnType.{ColumnType}
 use Rattle.gx_value.specs.declared.operators.Operator.{Operator}
 use Rattle.gx_value.specs.Operators.{is_operand}
+use Rattle.gx_value.specs.Values.{Datum}
 use Rattle.gx_opr.specs.declared.operand.Operand as code
 use Rattle.gx_opr.specs.Operands.{right_of, IsRight}
+use Rattle.gx_opr.specs.Operators.{IsPathValue}
 use Rattle.gx_model.specs.Truth as model
 use Rattle.gx_plan.specs.declared.bound.Bound.{Bound}
 use Rattle.gx_plan.specs.declared.bound.Bound.TheVariants as bound
@@ -45,3 +47,11 @@ IsBound kinds (model.Or a b) = IsBound kinds a × IsBound kinds b
 IsBound kinds (model.Not a) = IsBound kinds a
 IsBound kinds (model.Atom place op operand) = IsSomeAnd (slice_get kinds place) (IsAsked op operand)
 IsBound kinds (model.IsNull place negated) = IsSomeAnd (slice_get kinds place) (λ kind. Unit {0})
+
+-- An operator of the condition is asked of a path.
+abbrev pub AsksPath : model.Bound → List (Option Datum) → Type 0
+AsksPath (model.And a b) fields = AsksPath a fields ⊎ AsksPath b fields
+AsksPath (model.Or a b) fields = AsksPath a fields ⊎ AsksPath b fields
+AsksPath (model.Not a) fields = AsksPath a fields
+AsksPath (model.Atom place op operand) fields = IsSomeAnd (model.field_at fields place) IsPathValue
+AsksPath (model.IsNull place negated) fields = ⊥

@@ -1,2 +1,4 @@
 pub mod Bindings
 pub mod Bounds
+pub mod Indexes
+pub mod Plans

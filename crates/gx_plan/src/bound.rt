@@ -1,12 +1,13 @@
 //! Conditions that are bound to a table.
 
-ghost use Rattle.std.specs.Prelude.{◌≡◌, true, List, None, Some, map, IfOk, option_copied, option_map};
+ghost use Rattle.std.specs.Prelude.{◌≡◌, true, List, None, Some, map, IfOk, IsErr, IsSomeAnd, option_copied, option_map};
 ghost use Rattle.gx_value.specs.Values.{datum_of, row_of, IsField, IsRow};
 ghost use Rattle.gx_value.specs.declared.types.ColumnType.{ColumnType};
 ghost use Rattle.gx_opr.specs.Decisions as decisions;
 ghost use Rattle.gx_opr.specs.Operands.{right_of, Resolves};
+ghost use Rattle.gx_opr.specs.Operators.{IsPathValue};
 ghost use Rattle.gx_model.specs.Truth as model;
-ghost use Rattle.gx_plan.specs.Bounds.{bound_of, operand_of, truth_of, IsAsked, IsBound};
+ghost use Rattle.gx_plan.specs.Bounds.{bound_of, operand_of, truth_of, AsksPath, IsAsked, IsBound};
 
 use gx_bytes::NoMemory;
 use gx_opr::{Operand, decided, holds};
@@ -81,7 +82,8 @@ impl Bound {
     /// What the condition is of a row with these fields. Only operators on paths may want memory.
     pub fn truth(&self, alloc: Global, fields: &[Option<Value>]) -> Result<Truth, NoMemory>
         requires { (kinds : List ColumnType) × IsBound kinds (bound_of self.now) × IsRow kinds (row_of fields.now) }
-        ensures { IfOk result (λ t. truth_of t ≡ model.truth (bound_of self.now) (row_of fields.now)) }
+        ensures answer { IfOk result (λ t. truth_of t ≡ model.truth (bound_of self.now) (row_of fields.now)) }
+        ensures memory { IsErr result → AsksPath (bound_of self.now) (row_of fields.now) }
     {
         match self {
             Bound::And(left, right) => match left.truth(alloc, fields)? {
@@ -110,7 +112,8 @@ fn truth_of_atom(
     operand: &Option<Operand>,
 ) -> Result<Truth, NoMemory>
     requires { (kind : ColumnType) × IsField kind (option_map datum_of (option_copied field)) × IsAsked op (option_map operand_of operand.now) kind }
-    ensures { IfOk result (λ t. truth_of t ≡ model.truth_of_atom op (option_map datum_of (option_copied field.entry)) (option_map operand_of operand.now)) }
+    ensures answer { IfOk result (λ t. truth_of t ≡ model.truth_of_atom op (option_map datum_of (option_copied field.entry)) (option_map operand_of operand.now)) }
+    ensures memory { IsErr result → IsSomeAnd (option_map datum_of (option_copied field.entry)) IsPathValue }
 {
     match (field, operand) {
         (Some(value), Some(operand)) => Ok(Truth::of(is_so(alloc, op, value, operand)?)),
@@ -120,7 +123,8 @@ fn truth_of_atom(
 
 fn is_so(alloc: Global, op: Operator, value: &Value, operand: &Operand) -> Result<bool, NoMemory>
     requires { Resolves op (datum_of value.now) operand.now }
-    ensures { IfOk result (λ so. so ≡ decisions.holds op (datum_of value.now) (right_of operand.now.part)) }
+    ensures answer { IfOk result (λ so. so ≡ decisions.holds op (datum_of value.now) (right_of operand.now.part)) }
+    ensures memory { IsErr result → IsPathValue (datum_of value.now) }
 {
     decided();
     holds(alloc, op, value, operand)

@@ -3,7 +3,11 @@
 
 mod binding;
 mod bound;
+mod choosing;
 mod operand;
+mod plan;
 
 pub use binding::bind;
 pub use bound::{Bound, Truth};
+pub use choosing::choose_plan;
+pub use plan::{Plan, print_plan};
