@@ -7,7 +7,7 @@ use Rattle.gx_pages.specs.declared.store.Pages.{Ghosts}
 use Rattle.gx_pages.specs.Footprints.{KeepsPages}
 use Rattle.gx_heap.specs.declared.heap.Heap.{Heap}
 use Rattle.gx_heap.specs.Heaps as heaps
-use Rattle.gx_heap.specs.Heaps.{HoldsHeap}
+use Rattle.gx_heap.specs.Heaps.{AreUsed, HoldsHeap}
 use Rattle.gx_catalog.specs.declared.info.TableInfo.{TableInfo}
 use Rattle.gx_catalog.specs.Catalogs.{Directory, HoldsCatalog, with_heap, without_table as without_info}
 use Rattle.gx_catalog.specs.Validity.{table_named as info_named}
@@ -24,12 +24,14 @@ use Rattle.gx_model.specs.Replies.{Reply, accepted, line}
 use Rattle.gx_model.specs.Steps.{Costs, Inserts, Stepped, Steps, done, new_table, with_new_table}
 use Rattle.gx_database.specs.Heaps.{Stored}
 use Rattle.gx_database.specs.Standing.{AreStored, IsStored, SpellsStored, StandsFor}
+use Rattle.gx_engine.specs.Vacuumed.{IsVacuumed}
 use Rattle.gx_step.specs.Doing.{Done, LacksRoom}
 use Rattle.gx_change.specs.Appended.{AreNumbered}
-use Rattle.gx_change.specs.Opened.{Opened}
-use Rattle.gx_change.proofs.Changed.{same_table, table_added, table_changed, table_dropped}
-use Rattle.gx_change.proofs.Frame.{FindsTables, HasTable, IsTold}
-use Rattle.gx_change.proofs.Indexes.{FindsNone}
+use Rattle.gx_step.specs.Opened.{Opened}
+use Rattle.gx_change.proofs.Changed.{table_added, table_changed, table_dropped, table_vacuumed}
+use Rattle.gx_step.proofs.Found.{FindsNone, FindsTables}
+use Rattle.gx_step.proofs.Loading.{IsTold}
+use Rattle.gx_change.proofs.Frame.{HasTable}
 use Rattle.gx_change.proofs.Names.{StaysValid, few_columns, has_short_names}
 use Rattle.gx_change.proofs.NewRows.{numbers_fit, reads_length, spelled_more, zip_join, zip_length}
 
@@ -104,24 +106,25 @@ module _ {P : Type 0} (g : Ghosts P) where
 
   pub vacuum_done : (old first mid last : P) (db : Database) (catalog next : Directory) (name : List ℕ) (info : TableInfo) (t : HasTable g first db catalog name info) → info.name ≡ name
       → IsTold g mid → IsTold g last → (heap : Heap) → heap.next ≡ info.heap.next
-      → ((rows : List heaps.Row) (feet free : List ℕ) → HoldsHeap g first info.heap rows feet free → (later rest : List ℕ) × HoldsHeap g mid heap rows later rest × KeepsPages g first mid feet free later rest)
+      → ((rows : List heaps.Row) (feet free : List ℕ) → HoldsHeap g first info.heap rows feet free
+      → (later rest : List ℕ) × HoldsHeap g mid heap rows later rest × AreUsed later rows × KeepsPages g first mid feet free later rest)
       → HoldsHeap g first info.heap t.place.stored.rows t.place.stored.feet t.holds.free
       → ((feet free : List ℕ) → HoldsCatalog g mid catalog feet free → HoldsCatalog g last next feet free × KeepsPages g mid last feet free feet free)
       → next.tables ≡ with_heap info.number heap catalog.tables → next.indexes ≡ catalog.indexes → g.count last ≡ g.count old
       → (reply : Reply) → reply ≡ accepted (line (codes "VACUUM")) → Done g old last (Vacuum name) db reply
   vacuum_done old first mid last db catalog next name info t named told_mid told heap number kept held set tables indexes count reply is =
       let vacuumed = kept t.place.stored.rows t.place.stored.feet t.holds.free held in
-      let same : with_table db name t.table ≡ db = same_table g first db catalog name info t named in
       let stored : IsStored t.table (record info { heap = heap }) (record { heap = heap; rows = t.place.stored.rows; feet = vacuumed.0 }) =
       record { name = t.here.name; columns = t.here.columns; heap = refl; next = number ∙ next_of first db catalog name info t; rows = t.here.rows } in
-      let stands = table_changed g first mid last db catalog next name info t named told_mid told heap t.place.stored.rows vacuumed.0 vacuumed.1 t.table vacuumed.2 vacuumed.3 set tables indexes stored
-      (subst (λ (d : Database). IsValid d) (sym same) t.valid) in
+      let left : IsVacuumed (g.map last) db name =
+      table_vacuumed g first mid last db catalog next name info t named told_mid told heap t.place.stored.rows vacuumed.0 vacuumed.1 vacuumed.2 vacuumed.4 set tables indexes stored vacuumed.3 in
       record {
         stepped = done db (codes "VACUUM");
         steps = inr (checks_at db name t.table (λ (u : Table). []) None t.named refl, refl);
         answered = sym is;
-        stands = subst (λ (d : Database). StandsFor (g.map last) d) same stands;
+        stands = left.stands;
         grows = omega (arith, count);
+        vacuumed = λ accepted. left;
       }
 
   pub drop_done : StaysValid → (old first mid last : P) (db : Database) (catalog next : Directory) (name : List ℕ) (info : TableInfo) (t : HasTable g first db catalog name info) → info.name ≡ name
@@ -138,6 +141,7 @@ module _ {P : Type 0} (g : Ghosts P) where
         answered = sym is;
         stands = table_dropped g first mid last db catalog next name info t named told_mid told rest keeps drops tables indexes (stays db (DropTable name) after t.valid tt steps);
         grows = omega (arith, count);
+        vacuumed = tt;
       }
 
   -- INSERT
@@ -179,6 +183,7 @@ module _ {P : Type 0} (g : Ghosts P) where
         stands = table_changed g first mid last db catalog next name info t named told_mid told heap (t.place.stored.rows ++ more) later rest new held keeps set tables indexes stored
             (stays db (Insert name listed rows) after t.valid tt steps);
         grows = omega (arith, count, many, added);
+        vacuumed = tt;
       }
 
   pub insert_lacks_room : (pages : P) (db : Database) (catalog : Directory) (name : List ℕ) (info : TableInfo) (t : HasTable g pages db catalog name info) → info.name ≡ name
@@ -229,4 +234,5 @@ module _ {P : Type 0} (g : Ghosts P) where
         stands = table_added g first mid last db catalog next o told_mid told info (new_table name columns) feet rest held keeps adds tables indexes stored
             (stays db (CreateTable name columns) after o.valid (has_short_names name columns sound) steps);
         grows = omega (arith, count);
+        vacuumed = tt;
       }

@@ -18,66 +18,17 @@ use Rattle.gx_database.specs.Places.{Place}
 use Rattle.gx_database.specs.Standing.{AreStored, HasHeader, IsStored, StandsFor}
 use Rattle.gx_database.proofs.Changes.{catalog_changed, heaps_changed}
 use Rattle.gx_database.proofs.Views.{catalog_held, heap_held, heap_stored, header_stays, one_count}
-use Rattle.gx_change.specs.Opened.{Holds, Opened}
-
-parts_at : (a b : PageMap) (m n : ℕ) (tables others : List TableInfo) (feet : List ℕ) (heaps : List Stored) (free : List ℕ) → a ≡ b → m ≡ n → tables ≡ others → HasParts b n others feet heaps free
-    → HasParts a m tables feet heaps free
-parts_at a b m n tables others feet heaps free map count same parts =
-    subst (λ (p : PageMap). HasParts p m tables feet heaps free) (sym map)
-    (subst (λ (k : ℕ). HasParts b k tables feet heaps free) (sym count)
-    (subst (λ (ts : List TableInfo). HasParts b n ts feet heaps free) (sym same) parts))
-
-header_at : (a b : PageMap) (m n : ℕ) → a ≡ b → m ≡ n → HasHeader b n → HasHeader a m
-header_at a b m n map count header = subst (λ (p : PageMap). HasHeader p m) (sym map) (subst (λ (k : ℕ). HasHeader b k) (sym count) header)
-
--- a table of the catalog is the database's table of the name
-abbrev pub FindsTables : Type 0
-FindsTables = (db : Database) (infos : List TableInfo) (stored : List Stored) (name : List ℕ) (info : TableInfo) → AreStored db.tables infos stored → info_named name infos ≡ Some info
-    → (t : Table) × (table_named db name ≡ Some t) × (place : Place name t db.tables infos stored) × (place.info ≡ info)
+use Rattle.gx_step.specs.Opened.{Holds, Opened}
+use Rattle.gx_step.proofs.Found.{FindsTables}
+use Rattle.gx_step.proofs.Loading.{IsTold}
 
 module _ {P : Type 0} (g : Ghosts P) where
-  -- what is so of all pages that are told
-  pub record IsTold (pages : P) : Type 0 where
-    pub counted : IfSome (g.map pages 0) (λ header. HasCount header (g.count pages))
-    pub bounded : g.count pages ≤ 2 ^ 50
-    pub ends : (n : ℕ) → g.count pages ≤ n → g.map pages n ≡ None
-
-  -- a catalog that was loaded from the pages of a database
-  pub opened : (old new : P) (catalog : Directory) (db : Database) (s : StandsFor (g.map old) db) → IsTold old → g.map new ≡ g.map old → g.count new ≡ g.count old
-      → ((tables : List TableInfo) (indexes : List IndexInfo) (feet free : List ℕ) → Stores (g.map old) (g.count old) tables indexes feet → IsFreeList (g.map old) (g.count old) free → IsApart (feet ++ free)
-      → (catalog.tables ≡ tables) × (catalog.indexes ≡ indexes) × HoldsCatalog g new catalog feet free)
-      → Opened g new db catalog
-  opened old new catalog db s told map count loaded =
-      let same : s.count ≡ g.count old = one_count (g.map old) s.count (g.count old) s.header told.counted told.bounded in
-      let parts : HasParts (g.map old) (g.count old) s.infos s.feet s.stored s.free = subst (λ (n : ℕ). HasParts (g.map old) n s.infos s.feet s.stored s.free) same s.parts in
-      let directory : Directory = record { chain = chain_on s.feet; tables = s.infos; indexes = [] } in
-      let there : HoldsCatalog g old directory s.feet s.free = catalog_held g old directory s.infos s.feet s.stored s.free parts refl refl refl in
-      let is = loaded s.infos [] s.feet s.free parts.catalog parts.frees there.apart in
-      record {
-        valid = s.valid;
-        heaps = s.stored;
-        holds = record {
-          header = header_at (g.map new) (g.map old) (g.count new) (g.count old) map count (subst (λ (n : ℕ). HasHeader (g.map old) n) same s.header);
-          feet = s.feet;
-          free = s.free;
-          parts = parts_at (g.map new) (g.map old) (g.count new) (g.count old) catalog.tables s.infos s.feet s.stored s.free map count is.0 parts;
-          chain = is.2.chain;
-          bare = is.1;
-        };
-        tables = subst (λ (ts : List TableInfo). AreStored db.tables ts s.stored) (sym is.0) s.tables;
-      }
-
-  -- a catalog that was loaded is one of these tables
-  pub loads : (old : P) (db : Database) (s : StandsFor (g.map old) db) → IsTold old → Stores (g.map old) (g.count old) s.infos [] s.feet
-  loads old db s told =
-      subst (λ (n : ℕ). Stores (g.map old) n s.infos [] s.feet) (one_count (g.map old) s.count (g.count old) s.header told.counted told.bounded) s.parts.catalog
-
-  pub stands : (pages : P) (catalog : Directory) (heaps : List Stored) (db : Database) → Holds g pages catalog heaps → AreStored db.tables catalog.tables heaps → IsValid db → IsTold pages
+  pub stands : (pages : P) (catalog : Directory) (heaps : List Stored) (db : Database) → Holds g pages catalog heaps → AreStored db.tables catalog.tables heaps → IsValid db → IsTold g pages
       → StandsFor (g.map pages) db
   stands pages catalog heaps db h tables valid told =
       record { valid = valid; count = g.count pages; header = h.header; ends = told.ends; infos = catalog.tables; feet = h.feet; stored = heaps; free = h.free; parts = h.parts; tables = tables }
 
-  header_after : (old new : P) → HasHeader (g.map old) (g.count old) → KeepsHeader (g.map old) (g.map new) → g.count old ≤ g.count new → IsTold new → HasHeader (g.map new) (g.count new)
+  header_after : (old new : P) → HasHeader (g.map old) (g.count old) → KeepsHeader (g.map old) (g.map new) → g.count old ≤ g.count new → IsTold g new → HasHeader (g.map new) (g.count new)
   header_after old new h keeps grows told =
       header_stays (g.map old) (g.map new) (g.count old) (g.count new) h keeps told.counted (let least = h.least in omega (arith, least, grows)) told.bounded
 
@@ -94,7 +45,7 @@ module _ {P : Type 0} (g : Ghosts P) where
   feet_one : (heap : Stored) → feet_of (heap ∷ []) ≡ heap.feet
   feet_one heap = append-nil heap.feet
 
-  pub heap_changed : (old new : P) (catalog : Directory) (front : List Stored) (heap next : Stored) (back : List Stored) (rest : List ℕ) (h : Holds g old catalog (front ++ heap ∷ back)) → IsTold new
+  pub heap_changed : (old new : P) (catalog : Directory) (front : List Stored) (heap next : Stored) (back : List Stored) (rest : List ℕ) (h : Holds g old catalog (front ++ heap ∷ back)) → IsTold g new
       → HoldsHeap g new next.heap next.rows next.feet rest → KeepsPages g old new heap.feet h.free next.feet rest → Holds g new catalog (front ++ next ∷ back)
   heap_changed old new catalog front heap next back rest h told held keeps =
       let cut : (one : Stored) → front ++ (one ∷ []) ++ back ≡ front ++ one ∷ back = λ one. append_assoc front (one ∷ []) back in
@@ -114,7 +65,7 @@ module _ {P : Type 0} (g : Ghosts P) where
         bare = h.bare;
       }
 
-  pub heap_gone : (old new : P) (catalog : Directory) (front : List Stored) (heap : Stored) (back : List Stored) (rest : List ℕ) (h : Holds g old catalog (front ++ heap ∷ back)) → IsTold new
+  pub heap_gone : (old new : P) (catalog : Directory) (front : List Stored) (heap : Stored) (back : List Stored) (rest : List ℕ) (h : Holds g old catalog (front ++ heap ∷ back)) → IsTold g new
       → KeepsPages g old new heap.feet h.free [] rest → Holds g new catalog (front ++ back)
   heap_gone old new catalog front heap back rest h told keeps =
       let kept : KeepsPages g old new (feet_of (heap ∷ [])) h.free (feet_of []) rest = subst (λ (l : List ℕ). KeepsPages g old new l h.free [] rest) (sym (feet_one heap)) keeps in
@@ -130,7 +81,7 @@ module _ {P : Type 0} (g : Ghosts P) where
         bare = h.bare;
       }
 
-  pub heap_added : (old new : P) (catalog : Directory) (heaps : List Stored) (next : Stored) (rest : List ℕ) (h : Holds g old catalog heaps) → IsTold new
+  pub heap_added : (old new : P) (catalog : Directory) (heaps : List Stored) (next : Stored) (rest : List ℕ) (h : Holds g old catalog heaps) → IsTold g new
       → HoldsHeap g new next.heap next.rows next.feet rest → KeepsPages g old new [] h.free next.feet rest → Holds g new catalog (heaps ++ next ∷ [])
   heap_added old new catalog heaps next rest h told held keeps =
       let stored : StoresHeap (g.map new) (g.count new) next = heap_stored g new next.heap next.rows next.feet rest held in
@@ -153,7 +104,7 @@ module _ {P : Type 0} (g : Ghosts P) where
   pub catalog_there : (pages : P) (catalog : Directory) (heaps : List Stored) (h : Holds g pages catalog heaps) → HoldsCatalog g pages catalog h.feet h.free
   catalog_there pages catalog heaps h = catalog_held g pages catalog catalog.tables h.feet heaps h.free h.parts refl h.bare h.chain
 
-  pub catalog_after : (old new : P) (catalog next : Directory) (heaps : List Stored) (later rest : List ℕ) (h : Holds g old catalog heaps) → IsTold new → HoldsCatalog g new next later rest
+  pub catalog_after : (old new : P) (catalog next : Directory) (heaps : List Stored) (later rest : List ℕ) (h : Holds g old catalog heaps) → IsTold g new → HoldsCatalog g new next later rest
       → KeepsPages g old new h.feet h.free later rest → next.indexes ≡ catalog.indexes → Holds g new next heaps
   catalog_after old new catalog next heaps later rest h told held keeps same =
       let bare : next.indexes ≡ [] = same ∙ h.bare in

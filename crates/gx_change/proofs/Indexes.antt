@@ -18,11 +18,7 @@ use Rattle.gx_model.specs.Faults.{checks, class_checks, found_checks, new_index_
 use Rattle.gx_database.specs.Heaps.{Stored}
 use Rattle.gx_database.specs.Standing.{AreStored}
 use Rattle.gx_change.specs.Faults.{index_fault_of}
-use Rattle.gx_change.proofs.Frame.{FindsTables}
-
--- where the catalog finds no table there is none
-abbrev pub FindsNone : Type 0
-FindsNone = (db : Database) (infos : List TableInfo) (stored : List Stored) (name : List ℕ) → AreStored db.tables infos stored → info_named name infos ≡ None → table_named db name ≡ None
+use Rattle.gx_step.proofs.Found.{FindsNone, FindsTables}
 
 -- no class is chosen, since there is none
 chosen_step : (kind : ColumnType) (class : Option (List ℕ)) (m : Option Method) → option_and_then (λ (n : Method). class_among classes n kind class) m ≡ None

@@ -1,9 +1,8 @@
--- Names that differ, said in the model's way and in the catalog's; the table that CREATE TABLE makes.
+-- The table that CREATE TABLE makes.
 use Rattle.std.proofs.Common.{◌≡◌, ◌≢◌, inl, inr, ℕ, ◌<◌, ◌≤◌, nat_le, nat_lt, Bool, true, false, ◌||◌, List, [], ◌∷◌, ◌++◌, length, map, codes, None, refl, sym, ◌∙◌, ap, subst, arith}
-use Rattle.std.specs.Prelude.{bytes_eq, is_some}
-use Rattle.std.specs.List.{AllByRecursion, list_any}
+use Rattle.std.specs.Prelude.{is_some}
+use Rattle.std.specs.List.{AllByRecursion}
 use Rattle.std.proofs.lemmas.Bool.Decides.{nat_tests}
-use Rattle.std.proofs.lemmas.Slice.Eq.{bytes_eq-Decides}
 use Rattle.gx_value.specs.declared.fields.Column.{Column}
 use Rattle.gx_parse.specs.declared.statement.ColumnWord.{ColumnWord}
 use Rattle.gx_parse.specs.Said.{Said, CreateTable}
@@ -16,40 +15,7 @@ use Rattle.gx_model.specs.Database.{Database, IsShort, IsValid, empty}
 use Rattle.gx_model.specs.Faults.{checks, new_column_checks}
 use Rattle.gx_model.specs.Steps.{HasShortNames, Stepped, Steps, done, new_table, with_new_table}
 use Rattle.gx_database.proofs.Empty.{empty_stands}
-
-or_false : (a b : Bool) → (a || b) ≡ false → (a ≡ false) × (b ≡ false)
-or_false true b same = cc
-or_false false b same = (refl, same)
-
-not_or : (a b : Bool) → a ≡ false → b ≡ false → (a || b) ≡ false
-not_or true b x y = cc
-not_or false b x y = y
-
-is_false : (b : Bool) → (b ≡ true → ⊥) → b ≡ false
-is_false true never = absurd (never refl)
-is_false false never = refl
-
-none_among : (name : List ℕ) (names : List (List ℕ)) → AllByRecursion (λ other. other ≢ name) names → list_any (bytes_eq name) names ≡ false
-none_among name [] differ = refl
-none_among name (other ∷ names) differ =
-    not_or (bytes_eq name other) (list_any (bytes_eq name) names) (is_false (bytes_eq name other) (λ yes. differ.0 (sym ((bytes_eq-Decides name other).0 yes)))) (none_among name names differ.1)
-
-all_differ : (name : List ℕ) (names : List (List ℕ)) → list_any (bytes_eq name) names ≡ false → AllByRecursion (λ other. other ≢ name) names
-all_differ name [] none = tt
-all_differ name (other ∷ names) none =
-    let parts = or_false (bytes_eq name other) (list_any (bytes_eq name) names) none in
-    ((λ same. let yes : bytes_eq name other ≡ true = (bytes_eq-Decides name other).1 (sym same) in let never : true ≡ false = sym yes ∙ parts.0 in absurd (apart never)), all_differ name names parts.1)
-  where
-    apart : true ≡ false → ⊥
-    apart e = cc
-
-pub to_model : (names : List (List ℕ)) → catalogs.AreDistinct names → model.AreDistinct names
-to_model [] distinct = tt
-to_model (name ∷ names) distinct = (none_among name names distinct.0, to_model names distinct.1)
-
-pub to_catalog : (names : List (List ℕ)) → model.AreDistinct names → catalogs.AreDistinct names
-to_catalog [] distinct = tt
-to_catalog (name ∷ names) distinct = (all_differ name names distinct.0, to_catalog names distinct.1)
+use Rattle.gx_step.proofs.Names.{or_false, to_catalog}
 
 -- it is so of one of these
 pub all_among : {X : Type 0} (Q : X → Type 0) (xs : List X) (x : X) → AllByRecursion Q xs → catalogs.IsAmong x xs → Q x

@@ -13,17 +13,7 @@ use Rattle.gx_model.specs.Faults.{checks}
 use Rattle.gx_model.specs.Replies.{Reply, accepted, line, refusal}
 use Rattle.gx_database.specs.Standing.{StandsFor}
 use Rattle.gx_step.specs.Doing.{Done}
-
--- A refusal leaves the pages as they are.
-pub refused_done : {P : Type 0} (g : Ghosts P) (old new : P) (said : Said) (db : Database) (n : ℕ) (reply : Reply) → g.map new ≡ g.map old → g.count new ≡ g.count old → StandsFor (g.map old) db
-    → Find (checks db said) (Some n) → reply ≡ refusal n → Done g old new said db reply
-refused_done g old new said db n reply map count s find same = record {
-  stepped = record { database = db; reply = refusal n };
-  steps = inl (n, find, refl);
-  answered = sym same;
-  stands = subst (λ (m : PageMap). StandsFor m db) (sym map) s;
-  grows = omega (arith, count);
-}
+use Rattle.gx_step.proofs.Same.{refused_done}
 
 pub all_refused : {P : Type 0} (g : Ghosts P) (old new : P) (said : Said) (n : ℕ) (result : Result code.Reply PageError) → g.map new ≡ g.map old → g.count new ≡ g.count old
     → (g.tells → (db : Database) → StandsFor (g.map old) db → Find (checks db said) (Some n)) → IfOk result (λ reply. reply_of reply ≡ refusal n)

@@ -5,23 +5,20 @@ ghost use Rattle.gx_pages.specs.Footprints.{StaysQuiet};
 ghost use Rattle.gx_pages.specs.Pages.{HasCause};
 ghost use Rattle.gx_chain.specs.Chains.{IsSound as IsUnbroken};
 ghost use Rattle.gx_catalog.specs.Validity.{table_named};
-ghost use Rattle.gx_database.specs.Standing.{StandsFor};
 ghost use Rattle.gx_engine.specs.Engines.{reply_of};
-ghost use Rattle.gx_model.specs.Database.{Database, column_named};
-ghost use Rattle.gx_model.specs.Steps.{Costs};
+ghost use Rattle.gx_model.specs.Database.{column_named};
 ghost use Rattle.gx_parse.specs.Said.{CreateIndex, DropIndex};
 ghost use Rattle.gx_parse.specs.Sound.{IsSound};
-ghost use Rattle.gx_step.specs.Doing.{Done, IsOrdinary};
+ghost use Rattle.gx_step.specs.Doing.{AtMostCosts, DoneFor, IsOrdinary, StandForNone};
 ghost use Rattle.gx_value.specs.Classes.{method_named};
 ghost use Rattle.gx_change.specs.Faults.{index_fault_of};
 
-use crate::opening::load;
 use gx_bytes::Bytes;
 use gx_catalog::Catalog;
 use gx_engine::Reply;
 use gx_pages::{PageError, Pages, Steps};
 use gx_parse::Parameter;
-use gx_step::refused;
+use gx_step::{load, refused};
 use gx_value::{Column, Method};
 use std::alloc::Global;
 use std::str;
@@ -40,14 +37,12 @@ pub fn create_index<P: Pages, L: Ledger>(
     steps: &mut Steps<L>,
 ) -> Result<Reply, PageError>
     requires { IsSound (CreateIndex name.now table.now method.now column.now (option_copied class) (option_copied parameter)) }
-    ensures done { IfOk result (λ reply. P.tells → (db : Database) → StandsFor (P.map pages.old) db
-        → Done P.Pages pages.old pages.new (CreateIndex name.now table.now method.now column.now (option_copied class.entry) (option_copied parameter.entry)) db (reply_of reply)) }
+    ensures done { IfOk result (DoneFor P.Pages pages.old pages.new (CreateIndex name.now table.now method.now column.now (option_copied class.entry) (option_copied parameter.entry))) }
     ensures ordinary { IfOk result (λ reply. IsOrdinary (reply_of reply)) }
     ensures cause { IfErr result (HasCause (P.faults pages.old) (P.faults pages.new)
-        (λ at expected found. P.tells → (db : Database) → StandsFor (P.map pages.old) db → ⊥) (λ count. ⊥) (Unit {0})) }
+        (λ at expected found. StandForNone P.Pages pages.old) (λ count. ⊥) (Unit {0})) }
     ensures least { IsUnbroken result → P.heap_fetches pages.new + steps.old ≤ P.heap_fetches pages.old + steps.new }
-    ensures most { P.tells → (db : Database) → StandsFor (P.map pages.old) db → (n : ℕ)
-        → Costs db (CreateIndex name.now table.now method.now column.now (option_copied class.entry) (option_copied parameter.entry)) n → steps.new ≤ steps.old + n }
+    ensures most { AtMostCosts P.Pages pages.old (CreateIndex name.now table.now method.now column.now (option_copied class.entry) (option_copied parameter.entry)) steps.old steps.new }
     ensures quiet { StaysQuiet P.Pages pages.old pages.new }
 {
     gx_step::tables_are_found();
@@ -64,12 +59,12 @@ pub fn drop_index<P: Pages, L: Ledger>(
     steps: &mut Steps<L>,
 ) -> Result<Reply, PageError>
     requires { IsSound (DropIndex name.now) }
-    ensures done { IfOk result (λ reply. P.tells → (db : Database) → StandsFor (P.map pages.old) db → Done P.Pages pages.old pages.new (DropIndex name.now) db (reply_of reply)) }
+    ensures done { IfOk result (DoneFor P.Pages pages.old pages.new (DropIndex name.now)) }
     ensures ordinary { IfOk result (λ reply. IsOrdinary (reply_of reply)) }
     ensures cause { IfErr result (HasCause (P.faults pages.old) (P.faults pages.new)
-        (λ at expected found. P.tells → (db : Database) → StandsFor (P.map pages.old) db → ⊥) (λ count. ⊥) (Unit {0})) }
+        (λ at expected found. StandForNone P.Pages pages.old) (λ count. ⊥) (Unit {0})) }
     ensures least { IsUnbroken result → P.heap_fetches pages.new + steps.old ≤ P.heap_fetches pages.old + steps.new }
-    ensures most { P.tells → (db : Database) → StandsFor (P.map pages.old) db → (n : ℕ) → Costs db (DropIndex name.now) n → steps.new ≤ steps.old + n }
+    ensures most { AtMostCosts P.Pages pages.old (DropIndex name.now) steps.old steps.new }
     ensures quiet { StaysQuiet P.Pages pages.old pages.new }
 {
     refused(alloc, 12)

@@ -6,23 +6,19 @@ ghost use Rattle.gx_pages.specs.Footprints.{KeepsPages, StaysQuiet};
 ghost use Rattle.gx_pages.specs.Pages.{HasCause};
 ghost use Rattle.gx_chain.specs.Chains.{IsSound as IsUnbroken};
 ghost use Rattle.gx_heap.specs.Heaps.{HoldsHeap, HoldsNoHeap, Row};
-ghost use Rattle.gx_database.specs.Standing.{StandsFor};
 ghost use Rattle.gx_engine.specs.Engines.{reply_of};
-ghost use Rattle.gx_model.specs.Database.{Database};
-ghost use Rattle.gx_model.specs.Steps.{Costs};
 ghost use Rattle.gx_parse.specs.Said.{Insert};
 ghost use Rattle.gx_parse.specs.Sound.{IsSound};
-ghost use Rattle.gx_step.specs.Doing.{Done, IsOrdinary, LacksRoom};
+ghost use Rattle.gx_step.specs.Doing.{AtMostCosts, DoneFor, IsOrdinary, LackRoomFor, StandForNone};
 ghost use Rattle.gx_change.specs.Appended.{AreNumbered};
 
-use crate::opening::load;
+use crate::appending::append_rows;
 use gx_bytes::Bytes;
 use gx_engine::Reply;
-use gx_heap::Heap;
 use gx_model::Refusal;
 use gx_pages::{PageError, Pages, Steps};
 use gx_parse::{GivenRows, Names};
-use gx_step::{counted, refused};
+use gx_step::{counted, load, refused};
 use gx_target::row_bytes;
 use std::alloc::Global;
 use std::sync::ledger::Ledger;
@@ -37,14 +33,13 @@ pub fn insert<P: Pages, L: Ledger>(
     steps: &mut Steps<L>,
 ) -> Result<Reply, PageError>
     requires { IsSound (Insert table.now (option_copied listed) rows.now) }
-    ensures done { IfOk result (λ reply. P.tells → (db : Database) → StandsFor (P.map pages.old) db
-        → Done P.Pages pages.old pages.new (Insert table.now (option_copied listed.entry) rows.now) db (reply_of reply)) }
+    ensures done { IfOk result (DoneFor P.Pages pages.old pages.new (Insert table.now (option_copied listed.entry) rows.now)) }
     ensures ordinary { IfOk result (λ reply. IsOrdinary (reply_of reply)) }
     ensures cause { IfErr result (HasCause (P.faults pages.old) (P.faults pages.new)
-        (λ at expected found. P.tells → (db : Database) → StandsFor (P.map pages.old) db → ⊥)
-        (λ count. P.tells → (db : Database) → StandsFor (P.map pages.old) db → LacksRoom (P.count pages.old) (Insert table.now (option_copied listed.entry) rows.now) db) (Unit {0})) }
+        (λ at expected found. StandForNone P.Pages pages.old)
+        (λ count. LackRoomFor P.Pages pages.old (Insert table.now (option_copied listed.entry) rows.now)) (Unit {0})) }
     ensures least { IsUnbroken result → P.heap_fetches pages.new + steps.old ≤ P.heap_fetches pages.old + steps.new }
-    ensures most { P.tells → (db : Database) → StandsFor (P.map pages.old) db → (n : ℕ) → Costs db (Insert table.now (option_copied listed.entry) rows.now) n → steps.new ≤ steps.old + n }
+    ensures most { AtMostCosts P.Pages pages.old (Insert table.now (option_copied listed.entry) rows.now) steps.old steps.new }
     ensures quiet { StaysQuiet P.Pages pages.old pages.new }
 {
     gx_step::tables_are_found();
@@ -66,32 +61,4 @@ pub fn insert<P: Pages, L: Ledger>(
         Err(Refusal::Fault { number }) => refused(alloc, number),
         Err(Refusal::Memory) => Err(PageError::Memory),
     }
-}
-
-/// Appends rows to a heap, in order.
-fn append_rows<P: Pages, L: Ledger>(
-    alloc: Global,
-    pages: &mut P,
-    heap: &mut Heap,
-    rows: &[Bytes],
-    steps: &mut Steps<L>,
-) -> Result<(), PageError>
-    requires short { AllByRecursion (λ row. length row ≤ 7900) rows.now }
-    requires room { heap.old.next + length rows.now ≤ 2 ^ 48 }
-    ensures added { OnOk result (P.tells → (stored : List Row) (feet free : List ℕ) → HoldsHeap P.Pages pages.old heap.old stored feet free
-        → (more : List Row) × (later : List ℕ) × (rest : List ℕ) × HoldsHeap P.Pages pages.new heap.new (stored ++ more) later rest
-        × KeepsPages P.Pages pages.old pages.new feet free later rest × AreNumbered heap.old.next rows.now more) }
-    ensures next { OnOk result (heap.new.next ≡ heap.old.next + length rows.now) }
-    ensures by_each { P.count pages.new ≤ P.count pages.old + length rows.now }
-    ensures cause { IfErr result (HasCause (P.faults pages.old) (P.faults pages.new)
-        (λ at expected found. P.tells → HoldsNoHeap P.Pages pages.old heap.old)
-        (λ count. (0 < length rows.now) × (2 ^ 50 ≤ P.count pages.old + length rows.now)) (Unit {0})) }
-    ensures ticks { P.heap_fetches pages.new + steps.old ≤ P.heap_fetches pages.old + steps.new }
-    ensures most { steps.new ≤ steps.old + length rows.now }
-    ensures quiet { StaysQuiet P.Pages pages.old pages.new }
-{
-    for row in rows {
-        heap.append(alloc, pages, row.as_slice(), steps)?;
-    }
-    Ok(())
 }

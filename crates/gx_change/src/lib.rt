@@ -1,9 +1,9 @@
 //! Statements that make, change and drop tables.
 #![tactic(auto)]
 
+mod appending;
 mod index;
 mod insertion;
-mod opening;
 mod table;
 mod vacuuming;
 

@@ -4,15 +4,11 @@ ghost use Rattle.std.specs.Prelude.{◌≡◌, ◌||◌, nat_le, nat_lt, ℕ, �
 ghost use Rattle.gx_pages.specs.Footprints.{StaysQuiet};
 ghost use Rattle.gx_pages.specs.Pages.{HasCause};
 ghost use Rattle.gx_chain.specs.Chains.{IsSound as IsUnbroken};
-ghost use Rattle.gx_database.specs.Standing.{StandsFor};
 ghost use Rattle.gx_engine.specs.Engines.{reply_of};
-ghost use Rattle.gx_model.specs.Database.{Database};
-ghost use Rattle.gx_model.specs.Steps.{Costs};
 ghost use Rattle.gx_parse.specs.Said.{CreateTable, DropTable};
 ghost use Rattle.gx_parse.specs.Sound.{IsSound};
-ghost use Rattle.gx_step.specs.Doing.{Done, IsOrdinary, LacksRoom};
+ghost use Rattle.gx_step.specs.Doing.{AtMostCosts, DoneFor, IsOrdinary, LackRoomFor, StandForNone};
 
-use crate::opening::load;
 use gx_bytes::Bytes;
 use gx_catalog::TableInfo;
 use gx_engine::Reply;
@@ -20,7 +16,7 @@ use gx_heap::Heap;
 use gx_model::Refusal;
 use gx_pages::{PageError, Pages, Steps};
 use gx_parse::ColumnWords;
-use gx_step::{refused, told};
+use gx_step::{load, refused, told};
 use gx_target::new_columns;
 use std::alloc::Global;
 use std::sync::ledger::Ledger;
@@ -34,13 +30,13 @@ pub fn create_table<P: Pages, L: Ledger>(
     steps: &mut Steps<L>,
 ) -> Result<Reply, PageError>
     requires { IsSound (CreateTable name.now columns.now) }
-    ensures done { IfOk result (λ reply. P.tells → (db : Database) → StandsFor (P.map pages.old) db → Done P.Pages pages.old pages.new (CreateTable name.now columns.now) db (reply_of reply)) }
+    ensures done { IfOk result (DoneFor P.Pages pages.old pages.new (CreateTable name.now columns.now)) }
     ensures ordinary { IfOk result (λ reply. IsOrdinary (reply_of reply)) }
     ensures cause { IfErr result (HasCause (P.faults pages.old) (P.faults pages.new)
-        (λ at expected found. P.tells → (db : Database) → StandsFor (P.map pages.old) db → ⊥)
-        (λ count. P.tells → (db : Database) → StandsFor (P.map pages.old) db → LacksRoom (P.count pages.old) (CreateTable name.now columns.now) db) (Unit {0})) }
+        (λ at expected found. StandForNone P.Pages pages.old)
+        (λ count. LackRoomFor P.Pages pages.old (CreateTable name.now columns.now)) (Unit {0})) }
     ensures least { IsUnbroken result → P.heap_fetches pages.new + steps.old ≤ P.heap_fetches pages.old + steps.new }
-    ensures most { P.tells → (db : Database) → StandsFor (P.map pages.old) db → (n : ℕ) → Costs db (CreateTable name.now columns.now) n → steps.new ≤ steps.old + n }
+    ensures most { AtMostCosts P.Pages pages.old (CreateTable name.now columns.now) steps.old steps.new }
     ensures quiet { StaysQuiet P.Pages pages.old pages.new }
 {
     gx_step::tables_are_found();
@@ -82,12 +78,12 @@ pub fn drop_table<P: Pages, L: Ledger>(
     steps: &mut Steps<L>,
 ) -> Result<Reply, PageError>
     requires { IsSound (DropTable name.now) }
-    ensures done { IfOk result (λ reply. P.tells → (db : Database) → StandsFor (P.map pages.old) db → Done P.Pages pages.old pages.new (DropTable name.now) db (reply_of reply)) }
+    ensures done { IfOk result (DoneFor P.Pages pages.old pages.new (DropTable name.now)) }
     ensures ordinary { IfOk result (λ reply. IsOrdinary (reply_of reply)) }
     ensures cause { IfErr result (HasCause (P.faults pages.old) (P.faults pages.new)
-        (λ at expected found. P.tells → (db : Database) → StandsFor (P.map pages.old) db → ⊥) (λ count. ⊥) (Unit {0})) }
+        (λ at expected found. StandForNone P.Pages pages.old) (λ count. ⊥) (Unit {0})) }
     ensures least { IsUnbroken result → P.heap_fetches pages.new + steps.old ≤ P.heap_fetches pages.old + steps.new }
-    ensures most { P.tells → (db : Database) → StandsFor (P.map pages.old) db → (n : ℕ) → Costs db (DropTable name.now) n → steps.new ≤ steps.old + n }
+    ensures most { AtMostCosts P.Pages pages.old (DropTable name.now) steps.old steps.new }
     ensures quiet { StaysQuiet P.Pages pages.old pages.new }
 {
     gx_step::tables_are_found();

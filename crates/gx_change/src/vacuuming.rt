@@ -4,18 +4,14 @@ ghost use Rattle.std.specs.Prelude.{◌≡◌, ℕ, ◌+◌, ◌≤◌, IfOk, If
 ghost use Rattle.gx_pages.specs.Footprints.{StaysQuiet};
 ghost use Rattle.gx_pages.specs.Pages.{HasCause};
 ghost use Rattle.gx_chain.specs.Chains.{IsSound as IsUnbroken};
-ghost use Rattle.gx_database.specs.Standing.{StandsFor};
 ghost use Rattle.gx_engine.specs.Engines.{reply_of};
-ghost use Rattle.gx_model.specs.Database.{Database};
-ghost use Rattle.gx_model.specs.Steps.{Costs};
 ghost use Rattle.gx_parse.specs.Said.{Vacuum};
 ghost use Rattle.gx_parse.specs.Sound.{IsSound};
-ghost use Rattle.gx_step.specs.Doing.{Done, IsOrdinary};
+ghost use Rattle.gx_step.specs.Doing.{AtMostCosts, DoneFor, IsOrdinary, StandForNone};
 
-use crate::opening::load;
 use gx_engine::Reply;
 use gx_pages::{PageError, Pages, Steps};
-use gx_step::{refused, told};
+use gx_step::{load, refused, told};
 use std::alloc::Global;
 use std::sync::ledger::Ledger;
 
@@ -27,12 +23,12 @@ pub fn vacuum<P: Pages, L: Ledger>(
     steps: &mut Steps<L>,
 ) -> Result<Reply, PageError>
     requires { IsSound (Vacuum table.now) }
-    ensures done { IfOk result (λ reply. P.tells → (db : Database) → StandsFor (P.map pages.old) db → Done P.Pages pages.old pages.new (Vacuum table.now) db (reply_of reply)) }
+    ensures done { IfOk result (DoneFor P.Pages pages.old pages.new (Vacuum table.now)) }
     ensures ordinary { IfOk result (λ reply. IsOrdinary (reply_of reply)) }
     ensures cause { IfErr result (HasCause (P.faults pages.old) (P.faults pages.new)
-        (λ at expected found. P.tells → (db : Database) → StandsFor (P.map pages.old) db → ⊥) (λ count. ⊥) (Unit {0})) }
+        (λ at expected found. StandForNone P.Pages pages.old) (λ count. ⊥) (Unit {0})) }
     ensures least { IsUnbroken result → P.heap_fetches pages.new + steps.old ≤ P.heap_fetches pages.old + steps.new }
-    ensures most { P.tells → (db : Database) → StandsFor (P.map pages.old) db → (n : ℕ) → Costs db (Vacuum table.now) n → steps.new ≤ steps.old + n }
+    ensures most { AtMostCosts P.Pages pages.old (Vacuum table.now) steps.old steps.new }
     ensures quiet { StaysQuiet P.Pages pages.old pages.new }
 {
     gx_step::tables_are_found();

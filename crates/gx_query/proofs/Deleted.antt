@@ -20,12 +20,14 @@ use Rattle.gx_database.specs.Parts.{HasParts}
 use Rattle.gx_database.specs.Places.{Place}
 use Rattle.gx_database.specs.Standing.{HasHeader, StandsFor}
 use Rattle.gx_step.specs.Doing.{Done}
+use Rattle.gx_step.proofs.Found.{FindsTables}
+use Rattle.gx_step.proofs.Same.{done_same, refused_done}
 use Rattle.gx_query.specs.Answers.{Passes, Refused, delete_reply}
 use Rattle.gx_query.specs.Tables.{HoldsTable, Removed}
 use Rattle.gx_query.proofs.Deleting.{stands_then}
-use Rattle.gx_query.proofs.Found.{FindsTables, IsLoaded, done_same}
+use Rattle.gx_step.specs.Opened.{IsLoaded}
 use Rattle.gx_query.proofs.Standing.{same_tables, table_held}
-use Rattle.gx_query.proofs.Steps.{OneStep, delete_costs, delete_refused, delete_steps, deleted, lacking, none_found}
+use Rattle.gx_query.proofs.Steps.{OneStep, delete_costs, delete_refused, delete_steps, deleted, none_found}
 
 -- What is answered of the table: a fault, and nothing changes; or the rows go of which the condition is true.
 abbrev pub Deletes : {P : Type 0} → Ghosts P → P → P → TableInfo → Option Tree → Reply → Type 0
@@ -74,6 +76,7 @@ module _ {P : Type 0} (g : Ghosts P) (old mid new : P) (db : Database) (s : Stan
           stands = stands_then g mid new db (stands_mid g old mid db s map) counted bounded name info t named place is_info condition removed later counts ends
               (valid db (Delete name tree) (record { database = deleted db t condition; reply = reply }) s.valid sound steps);
           grows = omega (arith, later, count);
+          vacuumed = tt;
         }
 
     pub delete_done : (reply : Reply) → Deletes g mid new info tree reply → Done g old new (Delete name tree) db reply
@@ -83,7 +86,7 @@ module _ {P : Type 0} (g : Ghosts P) (old mid new : P) (db : Database) (s : Stan
         by : (Refused (where_checks t.columns tree) reply × (g.map new ≡ g.map mid))
             ⊎ (Find (where_checks t.columns tree) None × ((condition : Option Bound) × BindsWhere t.columns tree condition × Removed g mid new info t condition place.stored.feet s.free × (reply ≡ delete_reply t condition)))
             → Done g old new (Delete name tree) db reply
-        by (inl refuses) = done_same g old new (Delete name tree) db reply s (refuses.1 ∙ map) (later ∙ count) (delete_refused db name tree t named reply refuses.0)
+        by (inl refuses) = done_same g old new (Delete name tree) db reply reply s (refuses.1 ∙ map) (later ∙ count) (delete_refused db name tree t named reply refuses.0) refl tt
         by (inr (find, (condition, binds, removed, is))) = done_so condition reply find binds is removed
 
     pub delete_most : OneStep → (before after n : ℕ)
@@ -98,7 +101,7 @@ module _ {P : Type 0} (g : Ghosts P) (old mid new : P) (db : Database) (s : Stan
 pub delete_lacks : {P : Type 0} (g : Ghosts P) (old new : P) (db : Database) (name : List ℕ) (tree : Option Tree) (s : StandsFor (g.map old) db) → table_named db name ≡ None → g.map new ≡ g.map old → g.count new ≡ g.count old
     → (reply : Reply) → reply ≡ refusal 2 → Done g old new (Delete name tree) db reply
 delete_lacks g old new db name tree s missing map count reply is =
-    done_same g old new (Delete name tree) db reply s map count (lacking db (Delete name tree) reply (none_found (table_named db name) (λ t. where_checks t.columns tree) missing) is)
+    refused_done g old new (Delete name tree) db 2 reply map count s (none_found (table_named db name) (λ t. where_checks t.columns tree) missing) is
 
 -- The table that the catalog finds, at its place.
 pub record At {P : Type 0} (g : Ghosts P) (old : P) (db : Database) (s : StandsFor (g.map old) db) (name : List ℕ) (info : TableInfo) : Type 0 where

@@ -11,38 +11,25 @@ use Rattle.gx_catalog.specs.Catalogs.{Directory, HoldsCatalog, Stores}
 use Rattle.gx_catalog.specs.Validity as catalogs
 use Rattle.gx_catalog.specs.declared.info.IndexInfo.{IndexInfo}
 use Rattle.gx_catalog.specs.declared.info.TableInfo.{TableInfo}
-use Rattle.gx_parse.specs.Said.{Said, Query, Select, Explain}
+use Rattle.gx_parse.specs.Said.{Query, Select, Explain}
 use Rattle.gx_model.specs.Database as model
 use Rattle.gx_model.specs.Database.{Database, Table, table_named}
 use Rattle.gx_model.specs.Replies.{Reply, refusal}
-use Rattle.gx_model.specs.Steps.{Costs, Steps}
+use Rattle.gx_model.specs.Steps.{Costs}
 use Rattle.gx_database.specs.Heaps.{Stored}
 use Rattle.gx_database.specs.Places.{Place}
 use Rattle.gx_database.specs.Standing.{AreStored, StandsFor}
 use Rattle.gx_step.specs.Doing.{Done}
+use Rattle.gx_step.specs.Opened.{IsLoaded}
+use Rattle.gx_step.proofs.Found.{FindsNone, FindsTables}
+use Rattle.gx_step.proofs.Names.{to_model}
+use Rattle.gx_step.proofs.Same.{done_same, refused_done}
 use Rattle.gx_query.specs.Answers.{Answers, Passes, checks_of, explain_reply, select_reply}
 use Rattle.gx_query.specs.Tables.{HoldsTable}
-use Rattle.gx_query.proofs.Standing.{parts, same_tables, table_held, table_same}
-use Rattle.gx_query.proofs.Steps.{OneStep, explain_costs, explain_steps, lacking, none_found, select_costs, select_steps}
+use Rattle.gx_query.proofs.Standing.{feet_apart, parts, same_tables, table_held, table_same}
+use Rattle.gx_query.proofs.Steps.{OneStep, explain_costs, explain_steps, none_found, select_costs, select_steps}
 
--- Names that differ.
-
-not_or : (a b : Bool) → a ≡ false → b ≡ false → (a || b) ≡ false
-not_or true b x y = cc
-not_or false b x y = y
-
-is_false : (b : Bool) → (b ≡ true → ⊥) → b ≡ false
-is_false true never = absurd (never refl)
-is_false false never = refl
-
-none_among : (name : List ℕ) (names : List (List ℕ)) → AllByRecursion (λ other. other ≢ name) names → list_any (bytes_eq name) names ≡ false
-none_among name [] differ = refl
-none_among name (other ∷ names) differ =
-    not_or (bytes_eq name other) (list_any (bytes_eq name) names) (is_false (bytes_eq name other) (λ yes. differ.0 (sym ((bytes_eq-Decides name other).0 yes)))) (none_among name names differ.1)
-
-to_model : (names : List (List ℕ)) → catalogs.AreDistinct names → model.AreDistinct names
-to_model [] distinct = tt
-to_model (name ∷ names) distinct = (none_among name names distinct.0, to_model names distinct.1)
+-- The columns of a table have different names.
 
 first_or : {X : Type 0} (b : Bool) (Q : X → Type 0) (x y : X) (rest : Option X) → cond b (Some x) rest ≡ Some y → Q x → (rest ≡ Some y → Q y) → Q y
 first_or true Q x y rest same here more = subst Q (let e : x ≡ y = (cc) in e) here
@@ -71,20 +58,6 @@ pub err_map : {T E : Type 0} (r : Result T E) (P Q : E → Type 0) → ((e : E) 
 err_map (Ok x) P Q more has = tt
 err_map (Err e) P Q more has = more e has
 
--- The laws of what the catalog finds.
-
-abbrev pub FindsTables : Type 0
-FindsTables = (db : Database) (infos : List TableInfo) (stored : List Stored) (name : List ℕ) (info : TableInfo) → AreStored db.tables infos stored → catalogs.table_named name infos ≡ Some info
-    → (t : Table) × (table_named db name ≡ Some t) × (place : Place name t db.tables infos stored) × (place.info ≡ info)
-
-abbrev pub FindsNone : Type 0
-FindsNone = (db : Database) (infos : List TableInfo) (stored : List Stored) (name : List ℕ) → AreStored db.tables infos stored → catalogs.table_named name infos ≡ None → table_named db name ≡ None
-
--- what loading a catalog promises of the pages
-abbrev pub IsLoaded : {P : Type 0} → Ghosts P → P → P → Directory → Type 0
-IsLoaded g old new catalog = (tables : List TableInfo) (indexes : List IndexInfo) (feet free : List ℕ) → Stores (g.map old) (g.count old) tables indexes feet → IsFreeList (g.map old) (g.count old) free → IsApart (feet ++ free)
-    → (catalog.tables ≡ tables) × (catalog.indexes ≡ indexes) × HoldsCatalog g new catalog feet free
-
 -- The database's table of a name, that the pages hold. The database has no index.
 pub record Found {P : Type 0} (g : Ghosts P) (pages : P) (db : Database) (name : List ℕ) (info : TableInfo) : Type 0 where
   pub table : Table
@@ -93,13 +66,15 @@ pub record Found {P : Type 0} (g : Ghosts P) (pages : P) (db : Database) (name :
   pub held : HoldsTable g pages info table
 
 module _ {P : Type 0} (g : Ghosts P) (old new : P) (db : Database) (s : StandsFor (g.map old) db) (counted : IfSome (g.map old 0) (λ header. HasCount header (g.count old))) (bounded : g.count old ≤ 2 ^ 50) where
-  -- there is a catalog
-  pub there : Stores (g.map old) (g.count old) s.infos [] s.feet
-  there = (parts g old db s counted bounded).catalog
-
   module _ (catalog : Directory) (loaded : IsLoaded g old new catalog) (name slice : List ℕ) (is_name : slice ≡ name) where
     same : catalog.tables ≡ s.infos
     same = same_tables g old db s counted bounded catalog.tables (λ others indexes feet free stores frees apart. (loaded others indexes feet free stores frees apart).0)
+
+    -- the catalog that is read has no index
+    pub no_indexes : catalog.indexes ≡ []
+    no_indexes =
+        let here = parts g old db s counted bounded in
+        (loaded s.infos [] s.feet s.free here.catalog here.frees (feet_apart g old db s counted bounded)).1
 
     in_infos : (o : Option TableInfo) → o ≡ catalogs.table_named slice catalog.tables → catalogs.table_named name s.infos ≡ o
     in_infos o is = sym (is ∙ (λ i. catalogs.table_named (is_name i) (same i)))
@@ -117,23 +92,12 @@ module _ {P : Type 0} (g : Ghosts P) (old new : P) (db : Database) (s : StandsFo
     pub table_missing : FindsNone → None ≡ catalogs.table_named slice catalog.tables → table_named db name ≡ None
     table_missing finds is = finds db s.infos s.stored name s.tables (in_infos None is)
 
--- A statement that changes nothing was done.
-pub done_same : {P : Type 0} (g : Ghosts P) (old new : P) (said : Said) (db : Database) (reply : Reply) → StandsFor (g.map old) db → g.map new ≡ g.map old → g.count new ≡ g.count old
-    → Steps db said (record { database = db; reply = reply }) → Done g old new said db reply
-done_same g old new said db reply s map count steps = record {
-  stepped = record { database = db; reply = reply };
-  steps = steps;
-  answered = refl;
-  stands = subst (λ (m : PageMap). StandsFor m db) (sym map) s;
-  grows = omega (arith, count);
-}
-
 module _ {P : Type 0} (g : Ghosts P) (old mid new : P) (db : Database) (q : Query) (info : TableInfo) (s : StandsFor (g.map old) db) (f : Found g mid db q.table info) where
   pub select_done : g.map new ≡ g.map old → g.count new ≡ g.count old → (reply : Reply) → Answers (select_reply q f.table) q f.table reply → Done g old new (Select q) db reply
-  select_done map count reply answers = done_same g old new (Select q) db reply s map count (select_steps db q f.table f.named reply answers)
+  select_done map count reply answers = done_same g old new (Select q) db reply reply s map count (select_steps db q f.table f.named reply answers) refl tt
 
   pub explain_done : g.map new ≡ g.map old → g.count new ≡ g.count old → (reply : Reply) → Answers (explain_reply f.table) q f.table reply → Done g old new (Explain q) db reply
-  explain_done map count reply answers = done_same g old new (Explain q) db reply s map count (explain_steps db q f.table f.named f.bare reply answers)
+  explain_done map count reply answers = done_same g old new (Explain q) db reply reply s map count (explain_steps db q f.table f.named f.bare reply answers) refl tt
 
   its_next : info.heap.next ≡ f.table.next
   its_next = f.held.stored.next
@@ -153,7 +117,7 @@ module _ {P : Type 0} (g : Ghosts P) (old mid new : P) (db : Database) (q : Quer
 
 module _ {P : Type 0} (g : Ghosts P) (old new : P) (db : Database) (q : Query) (s : StandsFor (g.map old) db) (missing : table_named db q.table ≡ None) (map : g.map new ≡ g.map old) (count : g.count new ≡ g.count old) where
   pub select_lacks : (reply : Reply) → reply ≡ refusal 2 → Done g old new (Select q) db reply
-  select_lacks reply is = done_same g old new (Select q) db reply s map count (lacking db (Select q) reply (none_found (table_named db q.table) (λ t. checks_of t.columns q) missing) is)
+  select_lacks reply is = refused_done g old new (Select q) db 2 reply map count s (none_found (table_named db q.table) (λ t. checks_of t.columns q) missing) is
 
   pub explain_lacks : (reply : Reply) → reply ≡ refusal 2 → Done g old new (Explain q) db reply
-  explain_lacks reply is = done_same g old new (Explain q) db reply s map count (lacking db (Explain q) reply (none_found (table_named db q.table) (λ t. checks_of t.columns q) missing) is)
+  explain_lacks reply is = refused_done g old new (Explain q) db 2 reply map count s (none_found (table_named db q.table) (λ t. checks_of t.columns q) missing) is

@@ -3,9 +3,11 @@ mod Feet
 mod Found
 mod Lists
 mod Looking
+mod Planned
 mod Standing
 mod Steps
 mod Stored
 mod Deleted
 mod Gone
 mod Rising
+mod Narrowing

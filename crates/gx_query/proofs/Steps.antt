@@ -24,7 +24,7 @@ null_whole : (name : List ℕ) (place : ℕ) (negated : Bool) → plan [] name (
 null_whole name place false = refl
 null_whole name place true = refl
 
-whole_plan : (name : List ℕ) (b : Bound) → plan [] name b ≡ Whole
+pub whole_plan : (name : List ℕ) (b : Bound) → plan [] name b ≡ Whole
 whole_plan name (And a b) = (λ i. both (whole_plan name a i) (plan [] name b)) ∙ whole_plan name b
 whole_plan name (Or a b) = (λ i. either (whole_plan name a i) (plan [] name b))
 whole_plan name (Not a) = refl
@@ -51,9 +51,6 @@ table_of o t Q some so = subst (λ (p : Option Table). IsSomeAnd p Q) some so
 
 refused_step : (db : Database) (said : Said) (reply : Reply) (n : ℕ) → Find (checks db said) (Some n) → reply ≡ refusal n → Steps db said (record { database = db; reply = reply })
 refused_step db said reply n find is = inl (n, find, λ i. record { database = db; reply = is i })
-
-pub lacking : (db : Database) (said : Said) (reply : Reply) → Find (checks db said) (Some 2) → reply ≡ refusal 2 → Steps db said (record { database = db; reply = reply })
-lacking db said reply find is = refused_step db said reply 2 find is
 
 module _ (db : Database) (q : Query) (t : Table) (named : table_named db q.table ≡ Some t) where
   abbrev more : Table → List Check

@@ -28,11 +28,12 @@ Passes checks columns tree = Find checks None × ((condition : Option Bound) × 
 unfoldable pub select_reply : Query → Table → Option Bound → Reply
 select_reply q t condition = accepted (selection t q.columns (selected condition t))
 
-unfoldable pub explained_reply : ℕ → ℕ → Reply
-explained_reply candidates rows = accepted (explanation (codes "*") candidates rows)
+unfoldable pub explained_reply : List ℕ → ℕ → ℕ → Reply
+explained_reply by candidates rows = accepted (explanation by candidates rows)
 
+-- the rows of the whole table are looked at
 abbrev pub explain_reply : Table → Option Bound → Reply
-explain_reply t condition = explained_reply (length t.rows) (length (selected condition t))
+explain_reply t condition = explained_reply (codes "*") (length t.rows) (length (selected condition t))
 
 unfoldable pub delete_reply : Table → Option Bound → Reply
 delete_reply t condition = accepted (line (codes "DELETE " ++ decimal (length (selected condition t))))

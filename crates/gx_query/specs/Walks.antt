@@ -9,6 +9,7 @@ use Rattle.gx_plan.specs.Bounds.{bound_of, kinds_of, IsBound}
 use Rattle.gx_query.specs.declared.counts.Counts.{Counts}
 use Rattle.gx_query.specs.declared.filter.Filter.{Filter}
 use Rattle.gx_query.specs.Seen.{Seen}
+use Rattle.gx_query.specs.Wanted.{CoversWhere}
 
 -- those of which the condition is true
 abbrev pub picked : Option Bound → List Seen → List Seen
@@ -37,6 +38,8 @@ IsBoundWhere kinds (Some condition) = IsBound kinds condition
 pub record IsFilter (columns : List Column) (filter : Filter) : Type 0 where
   pub kinds : filter.kinds.items ≡ kinds_of columns
   pub bound : IsBoundWhere (kinds_of columns) (condition_of filter)
+  pub long : length filter.wanted.items ≡ length columns
+  pub covers : CoversWhere filter.wanted.items (condition_of filter)
 
 -- A page is broken, and then this is so; or there is no memory.
 abbrev pub Breaks : Type 0 → PageError → Type 0

@@ -8,9 +8,10 @@ ghost use Rattle.gx_model.specs.Truth.{selects};
 ghost use Rattle.gx_parse.specs.Sound.{WhereHasLiterals};
 ghost use Rattle.gx_parse.specs.Trees.{tree_of};
 ghost use Rattle.gx_value.specs.Values.{row_of, IsRow};
-ghost use Rattle.gx_plan.specs.Bounds.{kinds_of};
+ghost use Rattle.gx_plan.specs.Bounds.{bound_of, kinds_of};
 ghost use Rattle.gx_query.specs.Walks.{IsFilter, IsBoundWhere, condition_of};
 
+use crate::wanted::wanted_by;
 use gx_bytes::NoMemory;
 use gx_model::Refusal;
 use gx_parse::Condition;
@@ -18,10 +19,11 @@ use gx_plan::{Bound, Truth, bind};
 use gx_value::{Column, ColumnType, Value};
 use std::alloc::Global;
 
-/// The types of a table's columns, and the condition on its rows, if there is one.
+/// The types of a table's columns, the condition on its rows, if there is one, and for each column whether the condition names it.
 #[derive(Drop)]
 pub struct Filter {
     pub kinds: Vec<ColumnType>,
+    pub wanted: Vec<bool>,
     pub condition: Option<Bound>,
 }
 
@@ -57,18 +59,35 @@ pub fn filter_of(
     let Ok(kinds) = types_of(alloc, columns) else {
         return Err(Refusal::Memory);
     };
+    let bound = bind_where(alloc, columns, condition)?;
+    let Ok(wanted) = wanted_by(alloc, columns.len(), &bound) else {
+        return Err(Refusal::Memory);
+    };
+    Ok(Filter {
+        kinds,
+        wanted,
+        condition: bound,
+    })
+}
+
+// The bound condition, if there is one.
+fn bind_where(
+    alloc: Global,
+    columns: &[Column],
+    condition: Option<&Condition>,
+) -> Result<Option<Bound>, Refusal>
+    requires { WhereHasLiterals (option_map tree_of (option_copied condition)) }
+    ensures answer { MatchResult result
+        (λ bound. Find (where_checks columns.now (option_map tree_of (option_copied condition.entry))) None × BindsWhere columns.now (option_map tree_of (option_copied condition.entry)) (option_map bound_of bound))
+        (Refuses (where_checks columns.now (option_map tree_of (option_copied condition.entry)))) }
+    ensures bound { IfOk result (λ bound. IsBoundWhere (kinds_of columns.now) (option_map bound_of bound)) }
+{
     match condition {
         Some(condition) => {
             let bound = bind(alloc, columns, condition)?;
-            Ok(Filter {
-                kinds,
-                condition: Some(bound),
-            })
+            Ok(Some(bound))
         }
-        None => Ok(Filter {
-            kinds,
-            condition: None,
-        }),
+        None => Ok(None),
     }
 }
 

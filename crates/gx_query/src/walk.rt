@@ -6,6 +6,7 @@ ghost use Rattle.gx_pages.specs.Pages.{HasCause};
 ghost use Rattle.gx_heap.specs.Heaps.{Row, HoldsHeap};
 ghost use Rattle.gx_value.specs.Rows.{SpellsRow};
 ghost use Rattle.gx_value.specs.Values.{Datum};
+ghost use Rattle.gx_model.specs.Truth.{selects};
 ghost use Rattle.gx_plan.specs.Bounds.{kinds_of};
 ghost use Rattle.gx_query.specs.declared.counts.Counts.{Counts};
 ghost use Rattle.gx_query.specs.Seen.{Seen, AreSeen};
@@ -13,7 +14,10 @@ ghost use Rattle.gx_query.specs.Walks.{Breaks, IsFilter, Shown, condition_of};
 
 use crate::counts::Counts;
 use crate::filter::Filter;
+use crate::narrow::narrow;
 use crate::visit::Visit;
+use gx_bytes::Bytes;
+use gx_chain::Trail;
 use gx_heap::Heap;
 use gx_pages::{PageError, Pages, RowRef, Rows, Steps};
 use gx_value::{Column, decode_row};
@@ -21,6 +25,7 @@ use std::alloc::Global;
 use std::sync::ledger::Ledger;
 
 /// Looks at all rows of a heap in order, shows those of which the condition is true to a visitor, and counts both. Each page is fetched once.
+/// Broken where the pages are no chain, a circle too, which is found when it closes.
 pub fn walk_rows<P: Pages, V: Visit, L: Ledger>(
     alloc: Global,
     pages: &mut P,
@@ -49,10 +54,14 @@ pub fn walk_rows<P: Pages, V: Visit, L: Ledger>(
         rows: 0,
         selected: 0,
     };
+    let mut trail = Trail::new();
     let mut page = heap.first;
     for passed in 0..heap.next {
         if page == 0 {
             return Ok(counts);
+        }
+        if !trail.passes(page) {
+            return Err(unended(page));
         }
         let mut rows = Rows::new(alloc);
         let next = heap.next_page_of(pages, page, &mut rows, steps)?;
@@ -81,11 +90,21 @@ fn look_at<V: Visit>(
     ensures still { OnOk result (V.fits visitor.new columns.now) }
     ensures cause { IfErr result (Breaks ((seen : List Seen) → AreSeen (kinds_of columns.now) rows.now seen → ⊥)) }
 {
+    let mut scratch = Bytes::new(alloc);
     for at in 0..rows.len() {
         let Some((place, bytes)) = rows.get(at) else {
             unreachable!();
         };
-        look_at_one(alloc, columns, filter, place, bytes, visitor, counts)?;
+        look_at_one(
+            alloc,
+            columns,
+            filter,
+            place,
+            bytes,
+            visitor,
+            counts,
+            &mut scratch,
+        )?;
     }
     Ok(())
 }
@@ -99,11 +118,73 @@ fn look_at_one<V: Visit>(
     bytes: &[u8],
     visitor: &mut V,
     counts: &mut Counts,
+    scratch: &mut Bytes,
 ) -> Result<(), PageError>
     requires filter { IsFilter columns.now filter.now }
     requires fits { V.fits visitor.old columns.now }
     ensures shown { OnOk result ((fields : List (Option Datum)) → SpellsRow (kinds_of columns.now) bytes.now fields
         → Shown (V.after columns.now) (condition_of filter.now) visitor.old visitor.new counts.old counts.new ((place, fields) ∷ [])) }
+    ensures still { OnOk result (V.fits visitor.new columns.now) }
+    ensures cause { IfErr result (Breaks ((fields : List (Option Datum)) → SpellsRow (kinds_of columns.now) bytes.now fields → ⊥)) }
+{
+    let selected = is_selected(alloc, columns, filter, place.page, bytes, scratch)?;
+    if selected {
+        show(alloc, columns, filter, place, bytes, visitor)?;
+    }
+    match counts.add(selected) {
+        Ok(()) => Ok(()),
+        Err(_) => Err(PageError::Memory),
+    }
+}
+
+// Whether the condition is true of the row on this page with these bytes. Only the fields that it names are decoded.
+fn is_selected(
+    alloc: Global,
+    columns: &[Column],
+    filter: &Filter,
+    page: u64,
+    bytes: &[u8],
+    scratch: &mut Bytes,
+) -> Result<bool, PageError>
+    requires { IsFilter columns.now filter.now }
+    ensures selected { IfOk result (λ yes. (fields : List (Option Datum)) → SpellsRow (kinds_of columns.now) bytes.now fields → yes ≡ selects (condition_of filter.now) fields) }
+    ensures cause { IfErr result (Breaks ((fields : List (Option Datum)) → SpellsRow (kinds_of columns.now) bytes.now fields → ⊥)) }
+{
+    if filter.condition.is_none() {
+        return Ok(true);
+    }
+    gx_value::one_row();
+    scratch.truncate(0);
+    let Ok(so) = narrow(filter.wanted.as_slice(), bytes, scratch) else {
+        return Err(PageError::Memory);
+    };
+    if !so {
+        return Err(no_row(page));
+    }
+    let Ok(decoded) = decode_row(alloc, filter.kinds.as_slice(), scratch.as_slice()) else {
+        return Err(PageError::Memory);
+    };
+    let Some(fields) = decoded else {
+        return Err(no_row(page));
+    };
+    match filter.selects(alloc, fields.as_slice()) {
+        Ok(selected) => Ok(selected),
+        Err(_) => Err(PageError::Memory),
+    }
+}
+
+// Shows the row that stands there and has these bytes.
+fn show<V: Visit>(
+    alloc: Global,
+    columns: &[Column],
+    filter: &Filter,
+    place: RowRef,
+    bytes: &[u8],
+    visitor: &mut V,
+) -> Result<(), PageError>
+    requires filter { IsFilter columns.now filter.now }
+    requires fits { V.fits visitor.old columns.now }
+    ensures shown { OnOk result ((fields : List (Option Datum)) → SpellsRow (kinds_of columns.now) bytes.now fields → visitor.new ≡ V.after columns.now visitor.old (place, fields)) }
     ensures still { OnOk result (V.fits visitor.new columns.now) }
     ensures cause { IfErr result (Breaks ((fields : List (Option Datum)) → SpellsRow (kinds_of columns.now) bytes.now fields → ⊥)) }
 {
@@ -114,15 +195,7 @@ fn look_at_one<V: Visit>(
     let Some(fields) = decoded else {
         return Err(no_row(place.page));
     };
-    let Ok(selected) = filter.selects(alloc, fields.as_slice()) else {
-        return Err(PageError::Memory);
-    };
-    if selected {
-        let Ok(()) = visitor.visit(columns, place, fields.as_slice()) else {
-            return Err(PageError::Memory);
-        };
-    }
-    match counts.add(selected) {
+    match visitor.visit(columns, place, fields.as_slice()) {
         Ok(()) => Ok(()),
         Err(_) => Err(PageError::Memory),
     }

@@ -1,20 +1,19 @@
 -- Statements that do nothing to the pages.
-use Rattle.std.proofs.Common.{◌≡◌, ℕ, ◌+◌, ◌≤◌, Result, Ok, Err, IfOk, sym, subst, arith}
+use Rattle.std.proofs.Common.{◌≡◌, Result, Ok, Err, IfOk, refl, sym, subst}
 use Rattle.gx_pages.specs.declared.store.Pages.{Ghosts}
 use Rattle.gx_database.specs.Standing.{StandsFor}
 use Rattle.gx_model.specs.Database.{Database}
 use Rattle.gx_model.specs.Replies.{Reply}
-use Rattle.gx_model.specs.Steps.{Stepped, Steps}
+use Rattle.gx_model.specs.Steps.{Steps}
 use Rattle.gx_parse.specs.Said.{Said}
-use Rattle.gx_step.specs.Doing.{Done}
+use Rattle.gx_step.specs.Doing.{Done, Vacuums}
+use Rattle.gx_step.proofs.Same.{done_same}
 
 -- the pages stay, and stand for the same database
 pub done_still : {P : Type 0} (g : Ghosts P) (s : P) (said same : Said) (db : Database) (answer reply : Reply) → said ≡ same → Steps db same (record { database = db; reply = answer }) → answer ≡ reply
-    → StandsFor (g.map s) db → Done g s s said db reply
-done_still g s said same db answer reply e steps answered stands =
-    let stepped : Stepped = record { database = db; reply = answer } in
-    let At : Said → Type 0 = λ x. Steps db x stepped in
-    record { stepped = stepped; steps = subst At (sym e) steps; answered = answered; stands = stands; grows = omega arith }
+    → StandsFor (g.map s) db → Vacuums same (record { database = db; reply = answer }) (g.map s) → Done g s s said db reply
+done_still g s said same db answer reply e steps answered stands vacuums =
+    subst (λ (x : Said). Done g s s x db reply) (sym e) (done_same g s s same db answer reply stands refl refl steps answered vacuums)
 
 pub if_ok_then : {T E : Type 0} (result : Result T E) (P Q : T → Type 0) → ((x : T) → P x → Q x) → IfOk result P → IfOk result Q
 if_ok_then (Ok value) P Q f p = f value p

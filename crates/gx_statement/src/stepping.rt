@@ -4,13 +4,10 @@ ghost use Rattle.std.specs.Prelude.{◌≡◌, ℕ, ◌+◌, ◌≤◌, IfOk, If
 ghost use Rattle.gx_chain.specs.Chains.{IsSound as IsUnbroken};
 ghost use Rattle.gx_pages.specs.Footprints.{StaysQuiet};
 ghost use Rattle.gx_pages.specs.Pages.{HasCause};
-ghost use Rattle.gx_database.specs.Standing.{StandsFor};
 ghost use Rattle.gx_engine.specs.Engines.{reply_of};
-ghost use Rattle.gx_model.specs.Database.{Database};
-ghost use Rattle.gx_model.specs.Steps.{Costs};
 ghost use Rattle.gx_parse.specs.Said.{said_of};
 ghost use Rattle.gx_parse.specs.Sound.{IsSound};
-ghost use Rattle.gx_step.specs.Doing.{Done, IsOrdinary, LacksRoom};
+ghost use Rattle.gx_step.specs.Doing.{AtMostCosts, DoneFor, IsOrdinary, LackRoomFor, StandForNone};
 ghost use Rattle.gx_statement.specs.Work.{IsWork};
 
 use gx_bytes::Bytes;
@@ -33,13 +30,13 @@ pub fn step<P: Pages, L: Ledger>(
     steps: &mut Steps<L>,
 ) -> Result<Reply, PageError>
     requires { IsSound (said_of statement.now) }
-    ensures done { IfOk result (λ reply. P.tells → (db : Database) → StandsFor (P.map pages.old) db → Done P.Pages pages.old pages.new (said_of statement.now) db (reply_of reply)) }
+    ensures done { IfOk result (DoneFor P.Pages pages.old pages.new (said_of statement.now)) }
     ensures ordinary { IsWork (said_of statement.now) → IfOk result (λ reply. IsOrdinary (reply_of reply)) }
     ensures cause { IfErr result (HasCause (P.faults pages.old) (P.faults pages.new)
-        (λ at expected found. P.tells → (db : Database) → StandsFor (P.map pages.old) db → ⊥)
-        (λ count. P.tells → (db : Database) → StandsFor (P.map pages.old) db → LacksRoom (P.count pages.old) (said_of statement.now) db) (Unit {0})) }
+        (λ at expected found. StandForNone P.Pages pages.old)
+        (λ count. LackRoomFor P.Pages pages.old (said_of statement.now)) (Unit {0})) }
     ensures least { IsUnbroken result → P.heap_fetches pages.new + steps.old ≤ P.heap_fetches pages.old + steps.new }
-    ensures most { P.tells → (db : Database) → StandsFor (P.map pages.old) db → (n : ℕ) → Costs db (said_of statement.now) n → steps.new ≤ steps.old + n }
+    ensures most { AtMostCosts P.Pages pages.old (said_of statement.now) steps.old steps.new }
     ensures quiet { StaysQuiet P.Pages pages.old pages.new }
 {
     match statement {

@@ -4,11 +4,20 @@ use Rattle.std.specs.Prelude.{find}
 use Rattle.std.specs.Str.{bytes_eq}
 use Rattle.gx_catalog.specs.Validity.{table_named as info_named}
 use Rattle.gx_catalog.specs.declared.info.TableInfo.{TableInfo}
-use Rattle.gx_model.specs.Database.{Table, is_table}
+use Rattle.gx_model.specs.Database.{Database, Table, is_table, table_named}
 use Rattle.gx_database.specs.Heaps.{Stored}
 use Rattle.gx_database.specs.Places.{Place}
 use Rattle.gx_database.specs.Standing.{IsStored, AreStored}
 use Rattle.gx_database.proofs.Exchange.{at_front, behind}
+
+-- a table of the catalog is the database's table of the name
+abbrev pub FindsTables : Type 0
+FindsTables = (db : Database) (infos : List TableInfo) (stored : List Stored) (name : List ℕ) (info : TableInfo) → AreStored db.tables infos stored → info_named name infos ≡ Some info
+    → (t : Table) × (table_named db name ≡ Some t) × (place : Place name t db.tables infos stored) × (place.info ≡ info)
+
+-- where the catalog finds no table there is none
+abbrev pub FindsNone : Type 0
+FindsNone = (db : Database) (infos : List TableInfo) (stored : List Stored) (name : List ℕ) → AreStored db.tables infos stored → info_named name infos ≡ None → table_named db name ≡ None
 
 -- the table of the name, and its place, where its info is this one
 pub record Found (name : List ℕ) (info : TableInfo) (ts : List Table) (infos : List TableInfo) (stored : List Stored) : Type 0 where

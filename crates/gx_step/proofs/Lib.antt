@@ -1,2 +1,5 @@
-mod Found
+pub mod Found
+pub mod Names
+pub mod Loading
 pub mod Ordinary
+pub mod Same

@@ -3,15 +3,23 @@ use Rattle.std.specs.Prelude.{◌≡◌, ◌≢◌, ℕ, ◌+◌, ◌^◌, ◌�
 use Rattle.std.specs.List.{list_any}
 use Rattle.gx_pages.specs.declared.store.Pages.{Ghosts}
 use Rattle.gx_database.specs.Standing.{StandsFor}
-use Rattle.gx_engine.specs.Engines.{checkpoint_reply}
+use Rattle.gx_engine.specs.Engines.{checkpoint_reply, reply_of}
+use Rattle.gx_engine.specs.declared.reply.Reply as code
+use Rattle.gx_engine.specs.Vacuumed.{IsVacuumed}
+use Rattle.gx_words.specs.PageMap.{PageMap}
 use Rattle.gx_model.specs.Database.{Database}
 use Rattle.gx_model.specs.Replies.{Reply}
-use Rattle.gx_model.specs.Steps.{Stepped, Steps, growth_of}
-use Rattle.gx_parse.specs.Said.{Said}
+use Rattle.gx_model.specs.Steps.{Costs, Stepped, Steps, growth_of}
+use Rattle.gx_parse.specs.Said.{Said, Nothing, CreateTable, DropTable, CreateIndex, DropIndex, Insert, Delete, Select, Explain, Vacuum, Checkpoint, Begin, Commit, Rollback}
 
 -- how many pages a step may add: none where the statement is refused
 abbrev pub growth_in : Said → Stepped → ℕ
 growth_in said stepped = if is_some stepped.reply.fault then 0 else growth_of said
+
+-- An accepted VACUUM leaves each page but the last one of the table's heap with a row. Other statements owe nothing here.
+abbrev pub Vacuums : Said → Stepped → PageMap → Type 0
+Vacuums (Vacuum name) stepped map = stepped.reply.fault ≡ None → IsVacuumed map stepped.database name
+Vacuums _ stepped map = Unit {0}
 
 -- The statement was done: the database stepped as it says, it was answered so, the pages stand for the new database, and there are not
 -- many more of them.
@@ -21,6 +29,7 @@ pub record Done {P : Type 0} (g : Ghosts P) (old new : P) (said : Said) (db : Da
   pub answered : stepped.reply ≡ reply
   pub stands : StandsFor (g.map new) stepped.database
   pub grows : g.count new ≤ g.count old + growth_in said stepped
+  pub vacuumed : Vacuums said stepped (g.map new)
 
 -- The statement is accepted, may add pages, and there is no room for as many.
 pub record LacksRoom (count : ℕ) (said : Said) (db : Database) : Type 0 where
@@ -29,6 +38,22 @@ pub record LacksRoom (count : ℕ) (said : Said) (db : Database) : Type 0 where
   pub accepted : stepped.reply.fault ≡ None
   pub grows : growth_of said ≢ 0
   pub full : 2 ^ 50 ≤ count + growth_of said
+
+-- What a statement promises of pages, whatever database they stand for: it is done and answered so,
+abbrev pub DoneFor : {P : Type 0} → Ghosts P → P → P → Said → code.Reply → Type 0
+DoneFor g old new said reply = g.tells → (db : Database) → StandsFor (g.map old) db → Done g old new said db (reply_of reply)
+
+-- it finds them broken only where they stand for none,
+abbrev pub StandForNone : {P : Type 0} → Ghosts P → P → Type 0
+StandForNone g pages = g.tells → (db : Database) → StandsFor (g.map pages) db → ⊥
+
+-- it ends for want of room only where there is none,
+abbrev pub LackRoomFor : {P : Type 0} → Ghosts P → P → Said → Type 0
+LackRoomFor g pages said = g.tells → (db : Database) → StandsFor (g.map pages) db → LacksRoom (g.count pages) said db
+
+-- and there are no more ticks than it may cost.
+abbrev pub AtMostCosts : {P : Type 0} → Ghosts P → P → Said → ℕ → ℕ → Type 0
+AtMostCosts g pages said before now = g.tells → (db : Database) → StandsFor (g.map pages) db → (n : ℕ) → Costs db said n → now ≤ before + n
 
 -- The reply has a line, and isn't that to CHECKPOINT.
 pub record IsOrdinary (reply : Reply) : Type 0 where

@@ -2,7 +2,9 @@
 #![tactic(auto)]
 
 mod laws;
+mod opening;
 mod reply;
 
 pub use laws::tables_are_found;
+pub use opening::load;
 pub use reply::{counted, refused, told, wrong_at};

@@ -19,8 +19,10 @@ use Rattle.gx_model.specs.Replies.{accepted, line}
 use Rattle.gx_database.specs.Heaps.{Stored}
 use Rattle.gx_change.specs.Appended.{AreNumbered}
 use Rattle.gx_change.proofs.Effects.{checks_at, insert_done, insert_lacks_room, missing, next_of, read_at, rows_are_few}
-use Rattle.gx_change.proofs.Frame.{IsTold, catalog_there, has_table, heap_changed, table_heap}
-use Rattle.gx_change.proofs.Names.{all_among, to_model}
+use Rattle.gx_step.proofs.Loading.{IsTold}
+use Rattle.gx_change.proofs.Frame.{catalog_there, has_table, heap_changed, table_heap}
+use Rattle.gx_step.proofs.Names.{to_model}
+use Rattle.gx_change.proofs.Names.{all_among}
 use Rattle.gx_change.proofs.Refused.{all_done, all_refused}
 use Rattle.gx_change.proofs.insertion.insert.Goals as goal
 

@@ -16,7 +16,8 @@ use Rattle.gx_model.specs.Replies.{line}
 use Rattle.gx_model.specs.Steps.{column_of, new_table}
 use Rattle.gx_database.specs.Heaps.{Stored}
 use Rattle.gx_change.proofs.Effects.{as_many, create_done, create_lacks_room, present}
-use Rattle.gx_change.proofs.Frame.{IsTold, catalog_there, heap_added}
+use Rattle.gx_step.proofs.Loading.{IsTold}
+use Rattle.gx_change.proofs.Frame.{catalog_there, heap_added}
 use Rattle.gx_change.proofs.Names.{made_info, made_table, room_left}
 use Rattle.gx_change.proofs.Refused.{all_done, all_refused}
 use Rattle.gx_change.proofs.table.create_table.Goals as goal

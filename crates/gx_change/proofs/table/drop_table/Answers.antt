@@ -10,7 +10,8 @@ use Rattle.gx_model.specs.Replies.{line}
 use Rattle.gx_database.specs.Heaps.{Stored}
 use Rattle.gx_database.specs.Standing.{StandsFor}
 use Rattle.gx_change.proofs.Effects.{drop_cost, drop_done, missing, next_of}
-use Rattle.gx_change.proofs.Frame.{HasTable, IsTold, catalog_there, has_table, heap_changed, heap_gone, table_heap}
+use Rattle.gx_step.proofs.Loading.{IsTold}
+use Rattle.gx_change.proofs.Frame.{HasTable, catalog_there, has_table, heap_changed, heap_gone, table_heap}
 use Rattle.gx_change.proofs.Names.{all_among}
 use Rattle.gx_change.proofs.Refused.{all_done, all_refused}
 use Rattle.gx_change.proofs.table.drop_table.Goals as goal

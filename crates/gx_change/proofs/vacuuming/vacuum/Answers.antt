@@ -10,7 +10,8 @@ use Rattle.gx_model.specs.Replies.{line}
 use Rattle.gx_database.specs.Heaps.{Stored}
 use Rattle.gx_database.specs.Standing.{StandsFor}
 use Rattle.gx_change.proofs.Effects.{missing, next_of, vacuum_cost, vacuum_done}
-use Rattle.gx_change.proofs.Frame.{HasTable, IsTold, catalog_there, has_table, heap_changed, heap_gone, table_heap}
+use Rattle.gx_step.proofs.Loading.{IsTold}
+use Rattle.gx_change.proofs.Frame.{HasTable, catalog_there, has_table, heap_changed, heap_gone, table_heap}
 use Rattle.gx_change.proofs.Names.{all_among}
 use Rattle.gx_change.proofs.Refused.{all_done, all_refused}
 use Rattle.gx_change.proofs.vacuuming.vacuum.Goals as goal
@@ -81,7 +82,7 @@ returns-clause-done g c =
     (c.found_among.ensures.named c.args.table.now c.in_ok-catalog.catalog.tables c.in-Some.info.now (sym c.in-Some.ensures)).1
     (record { counted = g.met.P.Pages.counted c.vacuum.new.pages tells; bounded = g.met.P.Pages.bounded c.vacuum.new.pages; ends = g.met.P.Pages.ends c.vacuum.new.pages tells }) (record { counted = g.met.P.Pages.counted c.set_heap.new.pages tells; bounded = g.met.P.Pages.bounded c.set_heap.new.pages; ends = g.met.P.Pages.ends c.set_heap.new.pages tells })
     c.vacuum.new.self c.in_ok-vacuum.ensures.next
-    (λ rows feet free held. let k = c.in_ok-vacuum.ensures.kept tells rows feet free held in (k.0, k.1, k.2, k.4))
+    (λ rows feet free held. c.in_ok-vacuum.ensures.kept tells rows feet free held)
     (table_heap g.P.Pages c.load.new.pages db c.in_ok-catalog.catalog c.args.table.now c.in-Some.info.now t)
     (c.in_ok-set_heap.ensures.set tells) c.in_ok-set_heap.ensures.tables c.in_ok-set_heap.ensures.indexes
     (c.in_ok-set_heap.ensures.count ∙ c.in_ok-vacuum.ensures.count ∙ c.in_ok-catalog.ensures.count) reply is)

@@ -5,7 +5,7 @@ use Rattle.gx_pages.proofs.Footprints.{cause_weaker, quiet_join}
 use Rattle.gx_parse.specs.Trees.{tree_of}
 use Rattle.gx_engine.specs.Engines.{reply_of}
 use Rattle.gx_query.proofs.Deleted.{delete_done, delete_lacks, delete_most, placed}
-use Rattle.gx_query.proofs.Found.{err_map, ok_map, table_found, table_missing, there}
+use Rattle.gx_query.proofs.Found.{err_map, ok_map, table_found, table_missing}
 use Rattle.gx_query.proofs.query.delete.Goals as goal
 
 pub returns-in_err-catalog-clause-cause : goal.returns-in_err-catalog-clause-cause
@@ -14,8 +14,7 @@ returns-in_err-catalog-clause-cause g c =
     rw (p.1, p.2)
     (cause_weaker c.in_err-catalog.field-0.0 (g.P.Pages.faults c.args.pages.now) (g.P.Pages.faults c.args.pages.now) (g.P.Pages.faults c.load.new.pages) (g.P.Pages.faults c.load.new.pages)
     _ _ _ _ _ _ (omega arith) (omega arith)
-    (λ at expected found broken tells db s.
-    broken tells s.infos [] s.feet (there g.P.Pages c.args.pages.now c.load.new.pages db s (g.met.P.Pages.counted c.args.pages.now tells) (g.met.P.Pages.bounded c.args.pages.now)))
+    (λ at expected found broken. broken)
     (λ n no. absurd no) (λ memory. tt) c.in_err-catalog.ensures.cause)
 
 pub returns-in_default-clause-done : goal.returns-in_default-clause-done

@@ -3,7 +3,7 @@ use Rattle.std.proofs.lemmas.Result.{err_from_is_err_and}
 use Rattle.gx_pages.proofs.Footprints.{cause_weaker, quiet_join}
 use Rattle.gx_parse.specs.Said.{query_of}
 use Rattle.gx_engine.specs.Engines.{reply_of}
-use Rattle.gx_query.proofs.Found.{err_map, explain_done, explain_lacks, explain_most, ok_map, table_found, table_missing, there}
+use Rattle.gx_query.proofs.Found.{err_map, explain_done, explain_lacks, explain_most, no_indexes, ok_map, table_found, table_missing}
 use Rattle.gx_query.proofs.query.explain.Goals as goal
 
 pub returns-in_err-catalog-clause-cause : goal.returns-in_err-catalog-clause-cause
@@ -12,8 +12,7 @@ returns-in_err-catalog-clause-cause g c =
     rw (p.1, p.2)
     (cause_weaker c.in_err-catalog.field-0.0 (g.P.Pages.faults c.args.pages.now) (g.P.Pages.faults c.args.pages.now) (g.P.Pages.faults c.load.new.pages) (g.P.Pages.faults c.load.new.pages)
     _ _ _ _ _ _ (omega arith) (omega arith)
-    (λ at expected found broken tells db s.
-    broken tells s.infos [] s.feet (there g.P.Pages c.args.pages.now c.load.new.pages db s (g.met.P.Pages.counted c.args.pages.now tells) (g.met.P.Pages.bounded c.args.pages.now)))
+    (λ at expected found broken. broken)
     (λ n no. absurd no) (λ memory. tt) c.in_err-catalog.ensures.cause)
 
 pub returns-in_default-clause-done : goal.returns-in_default-clause-done
@@ -35,8 +34,10 @@ returns-clause-done g c =
     (λ reply answers tells db s.
     let f = table_found g.P.Pages c.args.pages.now c.load.new.pages db s (g.met.P.Pages.counted c.args.pages.now tells) (g.met.P.Pages.bounded c.args.pages.now) c.in_ok-catalog.catalog (c.in_ok-catalog.ensures.held tells)
     c.args.query.now.table c.as_slice.result.now c.as_slice.ensures c.tables_are_found.ensures.some c.in_ok-catalog.ensures.map c.in_ok-catalog.ensures.count c.in-Some.info.now c.in-Some.ensures in
+    let bare = no_indexes g.P.Pages c.args.pages.now c.load.new.pages db s (g.met.P.Pages.counted c.args.pages.now tells) (g.met.P.Pages.bounded c.args.pages.now) c.in_ok-catalog.catalog (c.in_ok-catalog.ensures.held tells)
+    c.args.query.now.table c.as_slice.result.now c.as_slice.ensures in
     explain_done g.P.Pages c.args.pages.now c.load.new.pages c.explain_from.new.pages db (query_of c.args.query.now) c.in-Some.info.now s f (c.explain_from.ensures.map ∙ c.in_ok-catalog.ensures.map)
-    (c.explain_from.ensures.count ∙ c.in_ok-catalog.ensures.count) (reply_of reply) (answers tells f.table f.held))
+    (c.explain_from.ensures.count ∙ c.in_ok-catalog.ensures.count) (reply_of reply) (answers tells bare f.table f.held))
     c.explain_from.ensures.answers
 
 pub returns-clause-ordinary : goal.returns-clause-ordinary
@@ -50,7 +51,9 @@ returns-clause-cause g c =
     (λ at expected found broken tells db s.
     let f = table_found g.P.Pages c.args.pages.now c.load.new.pages db s (g.met.P.Pages.counted c.args.pages.now tells) (g.met.P.Pages.bounded c.args.pages.now) c.in_ok-catalog.catalog (c.in_ok-catalog.ensures.held tells)
     c.args.query.now.table c.as_slice.result.now c.as_slice.ensures c.tables_are_found.ensures.some c.in_ok-catalog.ensures.map c.in_ok-catalog.ensures.count c.in-Some.info.now c.in-Some.ensures in
-    broken tells f.table f.held)
+    let bare = no_indexes g.P.Pages c.args.pages.now c.load.new.pages db s (g.met.P.Pages.counted c.args.pages.now tells) (g.met.P.Pages.bounded c.args.pages.now) c.in_ok-catalog.catalog (c.in_ok-catalog.ensures.held tells)
+    c.args.query.now.table c.as_slice.result.now c.as_slice.ensures in
+    broken tells bare f.table f.held)
     (λ n no. absurd no) (λ memory. tt) has)
     c.explain_from.ensures.cause
 

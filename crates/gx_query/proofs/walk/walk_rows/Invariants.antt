@@ -10,7 +10,7 @@ use Rattle.gx_query.proofs.walk.walk_rows.Given as goal
 abbrev pub invariant-loop-passed : goal.invariant-loop-passed
 invariant-loop-passed g l = record {
   walked : g.P.Pages.tells → (rows : List Row) (feet free : List ℕ) → HoldsHeap g.P.Pages l.fn.pages l.heap rows feet free
-      → (passed : Passed feet l.page l.passed) × ((seen : List Seen) → AreSeen (kinds_of l.columns) (rows_in passed.front rows) seen
+      → (passed : Passed feet l.page l.trail.mark l.passed) × ((seen : List Seen) → AreSeen (kinds_of l.columns) (rows_in passed.front rows) seen
       → Shown (g.V.Visit.after l.columns) (condition_of l.filter) l.fn.visitor l.visitor (record { rows = 0; selected = 0 }) l.counts seen);
   still : g.V.Visit.fits l.visitor l.columns;
   map : g.P.Pages.map l.pages ≡ g.P.Pages.map l.fn.pages;

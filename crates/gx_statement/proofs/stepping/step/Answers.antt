@@ -12,30 +12,30 @@ use Rattle.gx_statement.proofs.stepping.step.Goals as goal
 pub returns-in-Nothing-clause-done : goal.returns-in-Nothing-clause-done
 returns-in-Nothing-clause-done g c = λ tells db stands.
     doing.done_still g.P.Pages c.args.pages.now (said_of c.args.statement.now) said.Nothing db (accepted []) _ (ap said_of c.in-Nothing.is) (inr (refl, refl))
-    (ap (λ (b : List ℕ). accepted b) (sym c.new.ensures)) stands
+    (ap (λ (b : List ℕ). accepted b) (sym c.new.ensures)) stands tt
 
 pub returns-in-Checkpoint-clause-done : goal.returns-in-Checkpoint-clause-done
 returns-in-Checkpoint-clause-done g c = doing.if_ok_then c.told.result _ _
     (λ reply is tells db stands.
-    doing.done_still g.P.Pages c.args.pages.now (said_of c.args.statement.now) said.Checkpoint db (accepted (line (codes "CHECKPOINT"))) (reply_of reply) (ap said_of c.in-Checkpoint.is) (inr (refl, refl)) (sym is) stands)
+    doing.done_still g.P.Pages c.args.pages.now (said_of c.args.statement.now) said.Checkpoint db (accepted (line (codes "CHECKPOINT"))) (reply_of reply) (ap said_of c.in-Checkpoint.is) (inr (refl, refl)) (sym is) stands tt)
     c.told.ensures.reply
 
 pub returns-in-Begin-clause-done : goal.returns-in-Begin-clause-done
 returns-in-Begin-clause-done g c = doing.if_ok_then c.told-in-Begin.result _ _
     (λ reply is tells db stands.
-    doing.done_still g.P.Pages c.args.pages.now (said_of c.args.statement.now) said.Begin db (accepted (line (codes "BEGIN"))) (reply_of reply) (ap said_of c.in-Begin.is) (inr (refl, refl)) (sym is) stands)
+    doing.done_still g.P.Pages c.args.pages.now (said_of c.args.statement.now) said.Begin db (accepted (line (codes "BEGIN"))) (reply_of reply) (ap said_of c.in-Begin.is) (inr (refl, refl)) (sym is) stands tt)
     c.told-in-Begin.ensures.reply
 
 pub returns-in-Commit-clause-done : goal.returns-in-Commit-clause-done
 returns-in-Commit-clause-done g c = doing.if_ok_then c.told-in-Commit.result _ _
     (λ reply is tells db stands.
-    doing.done_still g.P.Pages c.args.pages.now (said_of c.args.statement.now) said.Commit db (accepted (line (codes "COMMIT"))) (reply_of reply) (ap said_of c.in-Commit.is) (inr (refl, refl)) (sym is) stands)
+    doing.done_still g.P.Pages c.args.pages.now (said_of c.args.statement.now) said.Commit db (accepted (line (codes "COMMIT"))) (reply_of reply) (ap said_of c.in-Commit.is) (inr (refl, refl)) (sym is) stands tt)
     c.told-in-Commit.ensures.reply
 
 pub returns-in-Rollback-clause-done : goal.returns-in-Rollback-clause-done
 returns-in-Rollback-clause-done g c = doing.if_ok_then c.told-in-Rollback.result _ _
     (λ reply is tells db stands.
-    doing.done_still g.P.Pages c.args.pages.now (said_of c.args.statement.now) said.Rollback db (accepted (line (codes "ROLLBACK"))) (reply_of reply) (ap said_of c.in-Rollback.is) (inr (refl, refl)) (sym is) stands)
+    doing.done_still g.P.Pages c.args.pages.now (said_of c.args.statement.now) said.Rollback db (accepted (line (codes "ROLLBACK"))) (reply_of reply) (ap said_of c.in-Rollback.is) (inr (refl, refl)) (sym is) stands tt)
     c.told-in-Rollback.ensures.reply
 
 pub returns-in-CreateTable-clause-most : goal.returns-in-CreateTable-clause-most

@@ -1,7 +1,10 @@
 -- The pages of a database while a statement works on them.
-use Rattle.std.specs.Prelude.{◌≡◌, ℕ, List, []}
+use Rattle.std.specs.Prelude.{◌≡◌, ℕ, List, [], ◌++◌}
 use Rattle.gx_pages.specs.declared.store.Pages.{Ghosts}
-use Rattle.gx_catalog.specs.Catalogs.{Directory, chain_on}
+use Rattle.gx_pages.specs.Frees.{IsApart, IsFreeList}
+use Rattle.gx_catalog.specs.Catalogs.{Directory, HoldsCatalog, Stores, chain_on}
+use Rattle.gx_catalog.specs.declared.info.IndexInfo.{IndexInfo}
+use Rattle.gx_catalog.specs.declared.info.TableInfo.{TableInfo}
 use Rattle.gx_database.specs.Heaps.{Stored}
 use Rattle.gx_database.specs.Parts.{HasParts}
 use Rattle.gx_database.specs.Standing.{AreStored, HasHeader}
@@ -22,3 +25,8 @@ pub record Opened {P : Type 0} (g : Ghosts P) (pages : P) (db : Database) (catal
   pub heaps : List Stored
   pub holds : Holds g pages catalog heaps
   pub tables : AreStored db.tables catalog.tables heaps
+
+-- The catalog is the one that the pages had, and they hold it, on whatever pages it stands.
+abbrev pub IsLoaded : {P : Type 0} → Ghosts P → P → P → Directory → Type 0
+IsLoaded g old new catalog = (tables : List TableInfo) (indexes : List IndexInfo) (feet free : List ℕ) → Stores (g.map old) (g.count old) tables indexes feet → IsFreeList (g.map old) (g.count old) free → IsApart (feet ++ free)
+    → (catalog.tables ≡ tables) × (catalog.indexes ≡ indexes) × HoldsCatalog g new catalog feet free

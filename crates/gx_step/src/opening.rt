@@ -7,7 +7,8 @@ ghost use Rattle.gx_chain.specs.Chains.{IsSound};
 ghost use Rattle.gx_catalog.specs.Validity.{AreCatalog};
 ghost use Rattle.gx_database.specs.Standing.{StandsFor};
 ghost use Rattle.gx_model.specs.Database.{Database};
-ghost use Rattle.gx_change.specs.Opened.{Opened};
+ghost use Rattle.gx_step.specs.Doing.{StandForNone};
+ghost use Rattle.gx_step.specs.Opened.{IsLoaded, Opened};
 
 use gx_catalog::Catalog;
 use gx_pages::{PageError, Pages};
@@ -16,10 +17,11 @@ use std::alloc::Global;
 /// The catalog of a database. Broken where the pages hold none, or one with an index: no class of indexes is there yet.
 pub fn load<P: Pages>(alloc: Global, pages: &mut P) -> Result<Catalog, PageError>
     ensures opened { IfOk result (λ catalog. P.tells → (db : Database) → StandsFor (P.map pages.old) db → Opened P.Pages pages.new db catalog) }
+    ensures held { IfOk result (λ catalog. P.tells → IsLoaded P.Pages pages.old pages.new catalog) }
     ensures bare { IfOk result (λ catalog. catalog.indexes ≡ []) }
     ensures valid { IfOk result (λ catalog. AreCatalog catalog.tables catalog.indexes) }
     ensures cause { IfErr result (HasCause (P.faults pages.old) (P.faults pages.new)
-        (λ at expected found. P.tells → (db : Database) → StandsFor (P.map pages.old) db → ⊥) (λ _. ⊥) (Unit {0})) }
+        (λ at expected found. StandForNone P.Pages pages.old) (λ _. ⊥) (Unit {0})) }
     ensures map { P.map pages.new ≡ P.map pages.old }
     ensures count { P.count pages.new ≡ P.count pages.old }
     ensures heap { IsSound result → P.heap_fetches pages.new ≡ P.heap_fetches pages.old }

@@ -5,7 +5,7 @@ use Rattle.gx_pages.proofs.Footprints.{cause_weaker, keeps_join, keeps_none, qui
 use Rattle.gx_heap.specs.Heaps.{HoldsHeap, Row}
 use Rattle.gx_change.specs.Appended.{AreNumbered}
 use Rattle.gx_change.proofs.NewRows.{numbered_more}
-use Rattle.gx_change.proofs.insertion.append_rows.Goals as goal
+use Rattle.gx_change.proofs.appending.append_each.Goals as goal
 
 pub loop-row-init : goal.loop-row-init
 loop-row-init g c = record {

@@ -2,8 +2,8 @@ use Rattle.std.proofs.Common.{◌≡◌, ◌≢◌, List, [], length, refl, sym,
 use Rattle.std.proofs.lemmas.Result.{err_from_is_err_and}
 use Rattle.gx_pages.proofs.Footprints.{cause_weaker}
 use Rattle.gx_catalog.specs.declared.info.IndexInfo.{IndexInfo}
-use Rattle.gx_change.proofs.Frame.{IsTold, loads, opened}
-use Rattle.gx_change.proofs.opening.load.Goals as goal
+use Rattle.gx_step.proofs.Loading.{loads, opened}
+use Rattle.gx_step.proofs.opening.load.Goals as goal
 
 pub returns-in_err-catalog-clause-cause : goal.returns-in_err-catalog-clause-cause
 returns-in_err-catalog-clause-cause g c =
