@@ -36,6 +36,11 @@ pub record HasAtMost {P : Type 0} (g : Ghosts P) (store : P) (pages : ℕ) : Typ
   pub now : g.count store ≤ pages
   pub committed : g.committed_count store ≤ pages
 
+-- Nothing waits to be committed: the map is the committed one.
+pub record IsSettled {P : Type 0} (g : Ghosts P) (store : P) : Type 0 where
+  pub map : g.map store ≡ g.committed store
+  pub count : g.count store ≡ g.committed_count store
+
 -- The piece was executed: it was answered by its turn, or there was no room, and the store stands for the next session.
 -- At each moment a crash leaves a committed map of before, or one that stands for the next committed database, and
 -- nothing is answered.
@@ -58,6 +63,7 @@ pub record Stopped {P : Type 0} (g : Ghosts P) (old new : P) (session : Session)
 
 -- Nothing was committed.
 pub record Unmade {P : Type 0} (g : Ghosts P) (old new : P) : Type 0 where
+  pub committed : g.tells → g.committed new ≡ g.committed old
   pub left : (map : PageMap) → g.may_leave new map → g.may_leave old map
   pub time : Between g.moment g.may_have_left_since old new (λ m. g.may_leave old m.image × (m.bytes ≡ (g.said old).bytes))
 

@@ -1,3 +1,4 @@
 pub mod Times
 pub mod Engines
 pub mod Lending
+pub mod Vacuumed

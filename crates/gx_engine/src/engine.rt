@@ -1,12 +1,15 @@
 //! The engine.
 
-ghost use Rattle.std.specs.Prelude.{◌≡◌, ◌≢◌, ◌⊎◌, ◌↔◌, ℕ, ◌+◌, ◌≤◌, false, List, [], codes, Err, is_err, IfOk, IfErr, OnOk, IsTrue};
+ghost use Rattle.std.specs.Prelude.{◌≡◌, ◌≢◌, ◌⊎◌, ◌↔◌, ℕ, ◌+◌, ◌≤◌, false, List, [], codes, None, Some, Err, is_err, IfOk, IfErr, OnOk, IsTrue};
 ghost use Rattle.gx_words.specs.Causes.{Rose};
 ghost use Rattle.gx_lexer.specs.Feeding.{piece_of};
 ghost use Rattle.gx_chain.specs.Chains.{IsSound};
 ghost use Rattle.gx_pages.specs.Pages.{HasCause};
-ghost use Rattle.gx_model.specs.Turns.{Session, TurnCosts};
-ghost use Rattle.gx_engine.specs.Engines.{IsIn, Executed, Stopped, Unmade, reply_of, checkpoint_reply};
+ghost use Rattle.gx_model.specs.Turns.{Session, TurnCosts, reading_of};
+ghost use Rattle.gx_parse.specs.Answers.{says};
+ghost use Rattle.gx_parse.specs.Said.{Vacuum};
+ghost use Rattle.gx_engine.specs.Engines.{IsIn, IsSettled, Executed, Stopped, Unmade, reply_of, checkpoint_reply};
+ghost use Rattle.gx_engine.specs.Vacuumed.{IsVacuumed};
 
 use crate::execute::Execute;
 use crate::reply::Reply;
@@ -68,6 +71,14 @@ impl<P: Store> Engine<P> {
         // The reply is the one of the session's turn, or E20 where there is no room, and the store is where it was turned.
         ensures executed { IfOk result (λ reply. P.tells → (session : Session) (text : List ℕ) → IsIn P.Pages self.old.store self.old.kind session → piece_of text ≡ piece.now
             → Executed P.Pages self.old.store self.new.store self.new.kind session text (reply_of reply)) }
+
+        // Outside a block nothing waits then to be committed, where nothing did before.
+        ensures settled { OnOk result (P.tells → (session : Session) → IsIn P.Pages self.old.store self.old.kind session → (self.old.kind ≡ Kind.Idle → IsSettled P.Pages self.old.store)
+            → self.new.kind ≡ Kind.Idle → IsSettled P.Pages self.new.store) }
+
+        // An accepted VACUUM leaves each page but the last one of the table's heap with a row.
+        ensures vacuumed { IfOk result (λ reply. reply.fault ≡ None → P.tells → (session : Session) (text table : List ℕ) → IsIn P.Pages self.old.store self.old.kind session → piece_of text ≡ piece.now
+            → reading_of text ≡ Some (says (Vacuum table)) → IsVacuumed (P.map self.new.store) session.committed table) }
 
         // What the errors leave, and when they come.
         ensures stopped { result ≡ Err PageError.DiskFault → P.tells → (session : Session) (text : List ℕ) → IsIn P.Pages self.old.store self.old.kind session → piece_of text ≡ piece.now

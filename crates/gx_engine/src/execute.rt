@@ -1,11 +1,14 @@
 //! A way of executing pieces.
 
-ghost use Rattle.std.specs.Prelude.{◌≡◌, ◌⊎◌, ℕ, ◌+◌, ◌≤◌, false, List, [], Err, IfOk, IfErr, OnOk};
+ghost use Rattle.std.specs.Prelude.{◌≡◌, ◌⊎◌, ℕ, ◌+◌, ◌≤◌, false, List, [], None, Some, Err, IfOk, IfErr, OnOk};
 ghost use Rattle.gx_lexer.specs.Feeding.{piece_of};
 ghost use Rattle.gx_chain.specs.Chains.{IsSound};
 ghost use Rattle.gx_pages.specs.Pages.{HasCause};
-ghost use Rattle.gx_model.specs.Turns.{Session, TurnCosts};
-ghost use Rattle.gx_engine.specs.Engines.{IsIn, Executed, Stopped, Unmade, reply_of, checkpoint_reply};
+ghost use Rattle.gx_model.specs.Turns.{Session, TurnCosts, reading_of};
+ghost use Rattle.gx_parse.specs.Answers.{says};
+ghost use Rattle.gx_parse.specs.Said.{Vacuum};
+ghost use Rattle.gx_engine.specs.Engines.{IsIn, IsSettled, Executed, Stopped, Unmade, reply_of, checkpoint_reply};
+ghost use Rattle.gx_engine.specs.Vacuumed.{IsVacuumed};
 
 use crate::engine::Kind;
 use crate::reply::Reply;
@@ -31,6 +34,14 @@ pub trait Execute {
         // The reply is the one of the session's turn, or E20 where there is no room, and the store is where it was turned.
         ensures executed { IfOk result (λ reply. P.tells → (session : Session) (text : List ℕ) → IsIn P.Pages store.old kind.old session → piece_of text ≡ piece.now
             → Executed P.Pages store.old store.new kind.new session text (reply_of reply)) }
+
+        // Outside a block nothing waits then to be committed, where nothing did before.
+        ensures settled { OnOk result (P.tells → (session : Session) → IsIn P.Pages store.old kind.old session → (kind.old ≡ Kind.Idle → IsSettled P.Pages store.old)
+            → kind.new ≡ Kind.Idle → IsSettled P.Pages store.new) }
+
+        // An accepted VACUUM leaves each page but the last one of the table's heap with a row.
+        ensures vacuumed { IfOk result (λ reply. reply.fault ≡ None → P.tells → (session : Session) (text table : List ℕ) → IsIn P.Pages store.old kind.old session → piece_of text ≡ piece.now
+            → reading_of text ≡ Some (says (Vacuum table)) → IsVacuumed (P.map store.new) session.committed table) }
 
         // What the errors leave, and when they come.
         ensures stopped { result ≡ Err PageError.DiskFault → P.tells → (session : Session) (text : List ℕ) → IsIn P.Pages store.old kind.old session → piece_of text ≡ piece.now

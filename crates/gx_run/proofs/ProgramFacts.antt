@@ -1,10 +1,11 @@
 -- From a run's end to its status.
-use Rattle.std.proofs.Common.{◌≡◌, ◌≢◌, ◌⊎◌, inl, inr, ℕ, ◌<◌, ◌≤◌, Bool, true, false, List, ◌++◌, Result, Ok, Err, refl, sym, ◌∙◌, ap, subst, arith}
+use Rattle.std.proofs.Common.{◌≡◌, ◌≢◌, ◌⊎◌, inl, inr, ℕ, ◌+◌, ◌<◌, ◌≤◌, Bool, true, false, List, ◌++◌, length, Result, Ok, Err, refl, sym, ◌∙◌, ap, subst, arith}
 use Rattle.gx_words.specs.Causes.{Said, Rose}
 use Rattle.gx_disk.specs.declared.disk.Disk.{Ghosts}
 use Rattle.gx_model.specs.Runs.{State}
 use Rattle.gx_run.specs.Lines.{broken_line}
-use Rattle.gx_run.specs.Outcomes.{Completes}
+use Rattle.gx_run.specs.Outcomes.{Completes, IsOfRun}
+use Rattle.gx_run.specs.Scripts.{Takes, TakesBy}
 use Rattle.gx_run.specs.Statuses.{AnswersBroken, FileRun, TryRun, RefusedAsBroken, status_of, IsWithout}
 use Rattle.gx_run.specs.Top.{ScriptHeadline, OpensBroken}
 use Rattle.gx_run.specs.Try.{TryHeadline}
@@ -15,6 +16,17 @@ use Rattle.gx_run.specs.declared.stop.Stop.TheVariants.{Answer, Disk, Memory, Br
 -- what the status of an end says
 abbrev pub Finishes : {H : Type 0} → H → H → Result Bool Halt → ℕ → Type 0
 Finishes mid new end status = IsWithout end → (status ≡ status_of end) × (new ≡ mid)
+
+-- where no page is broken the status isn't 6
+pub never_six : (end : Result Bool Halt) (status : ℕ) → status ≡ status_of end → IsWithout end → status ≢ 6
+never_six (Ok false) status is w e = omega (arith, is, e)
+never_six (Ok true) status is w e = omega (arith, is, e)
+never_six (Err (Stopped Disk)) status is w e = omega (arith, is, e)
+never_six (Err (Stopped Answer)) status is w e = omega (arith, is, e)
+never_six (Err (Stopped Memory)) status is w e = omega (arith, is, e)
+never_six (Err (Stopped (Broken page expected found))) status is w e = w
+never_six (Err Source) status is w e = omega (arith, is, e)
+never_six (Err Full) status is w e = omega (arith, is, e)
 
 small : (status : ℕ) (n : ℕ) → status ≡ n → n < 2 → status < 2
 small status n e l = omega (arith, e, l)
@@ -30,35 +42,17 @@ completes (Err Source) status e w d a s = absurd (s refl)
 completes (Err Full) status e w d a s = inr (inr e)
 
 module _ {H : Type 0} (g : Ghosts H) (ticks ticked : ℕ) (old mid new : H) (from : State) (limit : ℕ) (script left : List ℕ) where
-  pub file_without : (end : Result Bool Halt) → ScriptHeadline g ticks ticked old mid from limit script left end → IsWithout end
-  file_without (Ok refused) h = tt
-  file_without (Err (Stopped Disk)) h = tt
-  file_without (Err (Stopped Answer)) h = tt
-  file_without (Err (Stopped Memory)) h = tt
-  file_without (Err (Stopped (Broken page expected found))) h = h.ended
-  file_without (Err Source) h = tt
-  file_without (Err Full) h = tt
-
-  pub file_run : (end : Result Bool Halt) (status : ℕ) → Finishes mid new end status → ScriptHeadline g ticks ticked old mid from limit script left end
+  pub file_run : (end : Result Bool Halt) (status : ℕ) → Finishes mid new end status → IsWithout end → ScriptHeadline g ticks ticked old mid from limit script left end
       → FileRun g ticks ticked old new from limit script left status
-  file_run end status finish h =
-      let f = finish (file_without end h) in
+  file_run end status finish without h =
+      let f = finish without in
       let P : H → Type 0 = λ x. ScriptHeadline g ticks ticked old x from limit script left end in
       record { end = end; numbered = f.0; headline = subst P (sym f.1) h }
 
-pub try_without : (from : State) (ticks ticked : ℕ) (before now : List ℕ) (limit : ℕ) (script left : List ℕ) (end : Result Bool Halt) → TryHeadline from ticks ticked before now limit script left end → IsWithout end
-try_without from ticks ticked before now limit script left (Ok refused) h = tt
-try_without from ticks ticked before now limit script left (Err (Stopped Disk)) h = tt
-try_without from ticks ticked before now limit script left (Err (Stopped Answer)) h = tt
-try_without from ticks ticked before now limit script left (Err (Stopped Memory)) h = tt
-try_without from ticks ticked before now limit script left (Err (Stopped (Broken page expected found))) h = h.ended
-try_without from ticks ticked before now limit script left (Err Source) h = tt
-try_without from ticks ticked before now limit script left (Err Full) h = tt
-
-pub try_run : {H : Type 0} (g : Ghosts H) (mid new : H) (from : State) (ticks ticked : ℕ) (before : List ℕ) (limit : ℕ) (script left : List ℕ) (end : Result Bool Halt) (status : ℕ) → Finishes mid new end status
+pub try_run : {H : Type 0} (g : Ghosts H) (mid new : H) (from : State) (ticks ticked : ℕ) (before : List ℕ) (limit : ℕ) (script left : List ℕ) (end : Result Bool Halt) (status : ℕ) → Finishes mid new end status → IsWithout end
     → TryHeadline from ticks ticked before (g.said mid).bytes limit script left end → TryRun from ticks ticked before (g.said new).bytes limit script left status
-try_run g mid new from ticks ticked before limit script left end status finish h =
-    let f = finish (try_without from ticks ticked before (g.said mid).bytes limit script left end h) in
+try_run g mid new from ticks ticked before limit script left end status finish without h =
+    let f = finish without in
     let P : Said → Type 0 = λ s. TryHeadline from ticks ticked before s.bytes limit script left end in
     record { end = end; numbered = f.0; headline = subst P (ap (λ x. g.said x) (sym f.1)) h }
 
@@ -112,15 +106,37 @@ module _ {H : Type 0} (g : Ghosts H) (mid new : H) where
   number_cause (Err Source) status finish breaks differ e = absurd (let f = (finish tt).0 in omega (arith, e, f))
   number_cause (Err Full) status finish breaks differ e = absurd (let f = (finish tt).0 in omega (arith, e, f))
 
-  pub never_two : (end : Result Bool Halt) (status : ℕ) → Finishes mid new end status → Breaks g mid new end status → status ≢ 2
-  never_two (Ok false) status finish breaks e = let f = (finish tt).0 in omega (arith, e, f)
-  never_two (Ok true) status finish breaks e = let f = (finish tt).0 in omega (arith, e, f)
-  never_two (Err (Stopped Disk)) status finish breaks e = let f = (finish tt).0 in omega (arith, e, f)
-  never_two (Err (Stopped Answer)) status finish breaks e = let f = (finish tt).0 in omega (arith, e, f)
-  never_two (Err (Stopped Memory)) status finish breaks e = let f = (finish tt).0 in omega (arith, e, f)
-  never_two (Err (Stopped (Broken page expected found))) status finish breaks e = elim (breaks page expected found refl) [ inl b ↦ (let f = b.0 in omega (arith, e, f)) | inr b ↦ (let f = b.0 in omega (arith, e, f)) ]
-  never_two (Err Source) status finish breaks e = let f = (finish tt).0 in omega (arith, e, f)
-  never_two (Err Full) status finish breaks e = let f = (finish tt).0 in omega (arith, e, f)
+  of_run : (status n : ℕ) → status ≡ n → n ≤ 7 → n ≢ 2 → IsOfRun status
+  of_run status n e small other = (omega (arith, e, small), λ two. other (sym e ∙ two))
+
+  pub known : (end : Result Bool Halt) (status : ℕ) → Finishes mid new end status → Breaks g mid new end status → IsOfRun status
+  known (Ok false) status finish breaks = of_run status 0 (finish tt).0 (omega arith) (λ e. omega (arith, e))
+  known (Ok true) status finish breaks = of_run status 1 (finish tt).0 (omega arith) (λ e. omega (arith, e))
+  known (Err (Stopped Disk)) status finish breaks = of_run status 3 (finish tt).0 (omega arith) (λ e. omega (arith, e))
+  known (Err (Stopped Answer)) status finish breaks = of_run status 4 (finish tt).0 (omega arith) (λ e. omega (arith, e))
+  known (Err (Stopped Memory)) status finish breaks = of_run status 5 (finish tt).0 (omega arith) (λ e. omega (arith, e))
+  known (Err (Stopped (Broken page expected found))) status finish breaks =
+      elim (breaks page expected found refl) [
+        | inl b ↦ of_run status 6 b.0 (omega arith) (λ e. omega (arith, e))
+        | inr b ↦ of_run status 4 b.0 (omega arith) (λ e. omega (arith, e))
+      ]
+  known (Err Source) status finish breaks = of_run status 4 (finish tt).0 (omega arith) (λ e. omega (arith, e))
+  known (Err Full) status finish breaks = of_run status 7 (finish tt).0 (omega arith) (λ e. omega (arith, e))
+
+  pub takes_by : (end : Result Bool Halt) (status : ℕ) → Finishes mid new end status → Breaks g mid new end status → (limit : ℕ) (script left : List ℕ)
+      → Takes limit script left end → TakesBy limit script left status
+  takes_by (Ok false) status finish breaks limit script left t = (λ e. absurd (let f = (finish tt).0 in omega (arith, e, f)), λ n. t)
+  takes_by (Ok true) status finish breaks limit script left t = (λ e. absurd (let f = (finish tt).0 in omega (arith, e, f)), λ n. t)
+  takes_by (Err (Stopped Disk)) status finish breaks limit script left t = (λ e. absurd (let f = (finish tt).0 in omega (arith, e, f)), λ n. t)
+  takes_by (Err (Stopped Answer)) status finish breaks limit script left t = (λ e. absurd (let f = (finish tt).0 in omega (arith, e, f)), λ n. t)
+  takes_by (Err (Stopped Memory)) status finish breaks limit script left t = (λ e. absurd (let f = (finish tt).0 in omega (arith, e, f)), λ n. t)
+  takes_by (Err (Stopped (Broken page expected found))) status finish breaks limit script left t =
+      elim (breaks page expected found refl) [
+        | inl b ↦ (λ e. absurd (let s = b.0 in omega (arith, e, s)), λ n. t)
+        | inr b ↦ (λ e. absurd (let s = b.0 in omega (arith, e, s)), λ n. t)
+      ]
+  takes_by (Err Source) status finish breaks limit script left t = (λ e. absurd (let f = (finish tt).0 in omega (arith, e, f)), λ n. t)
+  takes_by (Err Full) status finish breaks limit script left t = (λ e. t, λ n. absurd (n (finish tt).0))
 
   module _ (old : H) (source_rose : Type 0) (later : (g.said old).faults ≤ (g.said mid).faults) where
     abbrev pub Caused : Type 0

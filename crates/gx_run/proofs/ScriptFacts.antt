@@ -1,7 +1,7 @@
 -- The run of a script that comes in parts.
-use Rattle.std.proofs.Common.{◌≡◌, ℕ, ◌+◌, ◌<◌, ◌≤◌, Bool, ◌||◌, List, [], ◌∷◌, ◌++◌, length, map, take, drop, Result, Ok, Err, refl, sym, ◌∙◌, ap, subst, append_assoc, length-append, take-append-drop, arith}
+use Rattle.std.proofs.Common.{◌≡◌, ℕ, ◌+◌, ◌-◌, ◌<◌, ◌≤◌, Bool, ◌||◌, List, [], ◌∷◌, ◌++◌, length, map, take, drop, Result, Ok, Err, refl, sym, ◌∙◌, ap, subst, append_assoc, length-append, take-append-drop, arith}
 use Rattle.std.proofs.Math.Seq.{take-append_seam}
-use Rattle.std.proofs.lemmas.List.{append-nil, take-append-le, append_cancel_left, map-append}
+use Rattle.std.proofs.lemmas.List.{append-nil, length-drop, take-append-le, append_cancel_left, map-append}
 use Rattle.std.proofs.lemmas.Grind.{common_steps}
 use Rattle.gx_words.specs.Causes.{Said}
 use Rattle.gx_words.specs.Moments.{Moment}
@@ -13,7 +13,10 @@ use Rattle.gx_lexer.specs.declared.piece.Piece.{Piece}
 use Rattle.gx_lexer.specs.Cut.{cut, statements}
 use Rattle.gx_lexer.specs.Feeding.{piece_of, pieces_of, Standing, Fed, CutsOn}
 use Rattle.gx_run.specs.Scripts.{RanMore, RanFront}
+use Rattle.gx_run.specs.Statuses.{IsWithout}
+use Rattle.gx_run.specs.declared.halt.Halt.TheVariants.{Stopped}
 use Rattle.gx_run.specs.declared.stop.Stop.{Stop}
+use Rattle.gx_run.specs.declared.stop.Stop.TheVariants.{Answer, Disk, Memory, Broken}
 use Rattle.gx_run.proofs.RunFacts as facts
 use Rattle.gx_run.proofs.FrontFacts.{cut_front, first_statements}
 
@@ -47,15 +50,32 @@ fits script fed left taken limit e end l low =
     let is : script ≡ fed = e ∙ ap (λ (t : List ℕ). fed ++ t) end ∙ append-nil fed in
     rw is (omega (arith, l, low))
 
-pub full : (script fed told read : List ℕ) (taken n room limit : ℕ) → script ≡ fed ++ told → length fed ≡ taken → limit ≤ taken → taken ≤ limit → IsFront told read n room → (n ≡ 0 → ⊥)
-    → (limit < length script) × (take limit script ≡ fed)
-full script fed told read taken n room limit e l low high f some =
+pub full : (script fed told read left : List ℕ) (taken n room limit : ℕ) → script ≡ fed ++ told → length fed ≡ taken → limit ≤ taken → taken ≤ limit → IsFront told read n room → left ≡ drop n told → (n ≡ 0 → ⊥)
+    → (limit + length left < length script) × (take limit script ≡ fed)
+full script fed told read left taken n room limit e l low high f d some =
     let is : limit ≡ length fed = omega (arith, l, low, high) in
-    let long : n ≤ length told = f.within in
-    let pos : 0 < n = grind arith in (
-      (rw e (omega (arith, length-append fed told, is, long, pos))),
+    let within : n ≤ length told = f.within in
+    let pos : 0 < n = grind arith in
+    let rest : length left ≡ length told - n = ap (λ (t : List ℕ). length t) d ∙ length-drop n told in (
+      (rw e (omega (arith, length-append fed told, is, within, pos, rest))),
       (rw (e, is) (take-append_seam fed told)),
     )
+
+-- what was taken isn't too much
+pub took : (script front left : List ℕ) (limit : ℕ) → script ≡ front ++ left → length front ≤ limit → length script ≤ limit + length left
+took script front left limit e most = rw e (omega (arith, length-append front left, most))
+
+-- n more bytes were taken, at most as many as a script may have
+pub took_more : (script fed told left : List ℕ) (taken n limit : ℕ) → script ≡ fed ++ told → length fed ≡ taken → left ≡ drop n told → taken + n ≤ limit → length script ≤ limit + length left
+took_more script fed told left taken n limit e l d most =
+    let dropped : length left ≡ length told - n = ap (λ (t : List ℕ). length t) d ∙ length-drop n told in
+    rw e (omega (arith, length-append fed told, l, dropped, most))
+
+-- one more part was read
+pub longer : (fed read more : List ℕ) (taken n : ℕ) → length fed ≡ taken → n ≤ length read → length (fed ++ take n (read ++ more)) ≡ taken + n
+longer fed read more taken n l within =
+    let some : length (take n (read ++ more)) ≡ n = grind (arith, common_steps) in
+    length-append fed (take n (read ++ more)) ∙ (rw (some, l) refl)
 
 pub front_ran : {D : Type 0} {s t : ℕ} (moment : D → ℕ) (since : D → ℕ → Moment PageMap → Type 0) (leaves : D → PageMap → Type 0) (said : D → Said) (is_at : D → State → Type 0) (emptied : D → Type 0)
     (old new : D) (from : State) (fed front : List ℕ) (refused : Bool) → front ≡ fed → Ran moment since leaves said is_at emptied s t old new from (cut fed).pieces (Ok refused)
@@ -108,6 +128,14 @@ module _ {D : Type 0} {s m : ℕ} (moment : D → ℕ) (since : D → ℕ → Mo
       let k = first_statements script (fed ++ bytes) left e in
       let P : List (List ℕ) → Type 0 = λ ps. facts.RanErr moment since leaves said is_at emptied s t old new from ps stop in
       subst P (sym k.1) (facts.ran_more moment since leaves said is_at emptied old new from (cut (fed ++ bytes)).pieces k.0 stop (part bytes (Err stop) second))
+
+-- No page is broken where pieces were run from a state on.
+pub without : {D : Type 0} {s t : ℕ} (moment : D → ℕ) (since : D → ℕ → Moment PageMap → Type 0) (leaves : D → PageMap → Type 0) (said : D → Said) (is_at : D → State → Type 0) (emptied : D → Type 0)
+    (old new : D) (from : State) (pieces : List (List ℕ)) (stop : Stop) → Ran moment since leaves said is_at emptied s t old new from pieces (Err stop) → IsWithout (Err (Stopped stop))
+without moment since leaves said is_at emptied old new from pieces Answer ran = tt
+without moment since leaves said is_at emptied old new from pieces Disk ran = tt
+without moment since leaves said is_at emptied old new from pieces Memory ran = tt
+without moment since leaves said is_at emptied old new from pieces (Broken page expected found) ran = ran.ends
 
 -- the pieces that were added are those behind the ones that end in what was fed before
 pub added_pieces : (fed bytes : List ℕ) (added : List Piece) → pieces_of (fed ++ bytes) ≡ pieces_of fed ++ added → map piece_of (cut_front fed bytes).0 ≡ added

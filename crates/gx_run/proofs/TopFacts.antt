@@ -169,6 +169,6 @@ module _ {H D : Type 0} (g : Ghosts H) (tells : g.tells) (host : D → H) (is_at
         → RanScript (λ d. g.moment (host d)) (λ d. MapSince g (host d)) (λ d. MapLeft g (host d)) (λ d. g.said (host d)) is_at (λ d. Stands [] (g.told (host d)).log) s t old new from limit script rest result
         → ScriptHeadline g s t start (host new) from limit script rest result
     script_headline limit script rest (Ok refused) r = (of_part (statements script) (Ok refused) r.0, r.1, r.2)
-    script_headline limit script rest (Err (Stopped stop)) r = of_part (statements script) (Err stop) r
-    script_headline limit script rest (Err Source) r = (r.0, r.1, r.2.0, of_part (cut r.0).pieces (Ok r.2.0) r.2.1)
+    script_headline limit script rest (Err (Stopped stop)) r = (of_part (statements script) (Err stop) r.0, r.1)
+    script_headline limit script rest (Err Source) r = (r.0, r.1, r.2, r.3.0, of_part (cut r.0).pieces (Ok r.3.0) r.3.1)
     script_headline limit script rest (Err Full) r = (r.0, r.1.0, of_part (cut (take limit script)).pieces (Ok r.1.0) r.1.1)

@@ -24,6 +24,6 @@ module _ {D : Type 0} (s t : ℕ) (moment : D → ℕ) (since : D → ℕ → Mo
   pub tries : (limit : ℕ) (script rest : List ℕ) (result : Result Bool Halt) → RanScript moment since (λ d map. ⊥) said is_at emptied s t old new from limit script rest result
       → TryHeadline from s t (said old).bytes (said new).bytes limit script rest result
   tries limit script rest (Ok refused) r = (one (statements script) (Ok refused) r.0, r.1, r.2)
-  tries limit script rest (Err (Stopped stop)) r = one (statements script) (Err stop) r
-  tries limit script rest (Err Source) r = (r.0, r.1, r.2.0, one (cut r.0).pieces (Ok r.2.0) r.2.1)
+  tries limit script rest (Err (Stopped stop)) r = (one (statements script) (Err stop) r.0, r.1)
+  tries limit script rest (Err Source) r = (r.0, r.1, r.2, r.3.0, one (cut r.0).pieces (Ok r.3.0) r.3.1)
   tries limit script rest (Err Full) r = (r.0, r.1.0, one (cut (take limit script)).pieces (Ok r.1.0) r.1.1)

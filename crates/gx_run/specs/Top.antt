@@ -1,5 +1,5 @@
 -- The headline: what a run of pieces on a file leaves of the host, at any moment and at its end.
-use Rattle.std.specs.Prelude.{◌≡◌, ◌⊎◌, ℕ, ◌<◌, ◌≤◌, Bool, List, [], ◌++◌, length, take, Result, Ok, Err, IfOk}
+use Rattle.std.specs.Prelude.{◌≡◌, ◌⊎◌, ℕ, ◌+◌, ◌<◌, ◌≤◌, Bool, List, [], ◌++◌, length, take, Result, Ok, Err, IfOk}
 use Rattle.gx_words.specs.Image.{Image}
 use Rattle.gx_words.specs.Moments.{Moment}
 use Rattle.gx_words.specs.PageMap.{PageMap}
@@ -59,14 +59,14 @@ pub record Headline {H : Type 0} (g : Ghosts H) (before now : ℕ) (old new : H)
 
 -- The headline for a script that came from a source: every piece of it was run and answered, and it isn't too long; or a piece stopped the run;
 -- or the source failed, and the pieces that a `;` ends in the bytes taken were run and answered; or there were more bytes
--- than a script may have, and so were the pieces that a `;` ends in so many of them.
+-- than a script may have, and so were the pieces that a `;` ends in so many of them. In this last case alone more bytes than that were taken.
 abbrev pub ScriptHeadline : {H : Type 0} → Ghosts H → ℕ → ℕ → H → H → State → ℕ → List ℕ → List ℕ → Result Bool Halt → Type 0
 ScriptHeadline g before now old new from limit script left (Ok refused) = Headline g before now old new from (statements script) (Ok refused) × (left ≡ []) × (length script ≤ limit)
-ScriptHeadline g before now old new from limit script left (Err (Stopped stop)) = Headline g before now old new from (statements script) (Err stop)
+ScriptHeadline g before now old new from limit script left (Err (Stopped stop)) = Headline g before now old new from (statements script) (Err stop) × (length script ≤ limit + length left)
 ScriptHeadline g before now old new from limit script left (Err Source) =
-    (taken : List ℕ) × (script ≡ taken ++ left) × (refused : Bool) × Headline g before now old new from (cut taken).pieces (Ok refused)
+    (taken : List ℕ) × (script ≡ taken ++ left) × (length taken ≤ limit) × (refused : Bool) × Headline g before now old new from (cut taken).pieces (Ok refused)
 ScriptHeadline g before now old new from limit script left (Err Full) =
-    (limit < length script) × (refused : Bool) × Headline g before now old new from (cut (take limit script)).pieces (Ok refused)
+    (limit + length left < length script) × (refused : Bool) × Headline g before now old new from (cut (take limit script)).pieces (Ok refused)
 
 -- the cause that an opening ends with; there is never a lack of pages
 abbrev pub stopped_by : PageError → Stop

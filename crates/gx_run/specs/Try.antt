@@ -1,5 +1,5 @@
 -- The headline of a run on a database in memory, which has no images.
-use Rattle.std.specs.Prelude.{◌≡◌, ℕ, ◌<◌, ◌≤◌, Bool, List, [], ◌++◌, length, take, Result, Ok, Err, IfOk}
+use Rattle.std.specs.Prelude.{◌≡◌, ℕ, ◌+◌, ◌<◌, ◌≤◌, Bool, List, [], ◌++◌, length, take, Result, Ok, Err, IfOk}
 use Rattle.gx_words.specs.PageMap.{PageMap}
 use Rattle.gx_lexer.specs.Cut.{cut, statements}
 use Rattle.gx_database.specs.Standing.{StandsFor}
@@ -24,8 +24,8 @@ pub record Tried (from : State) (ticks ticked : ℕ) (before now : List ℕ) (pi
 
 abbrev pub TryHeadline : State → ℕ → ℕ → List ℕ → List ℕ → ℕ → List ℕ → List ℕ → Result Bool Halt → Type 0
 TryHeadline from ticks ticked before now limit script left (Ok refused) = Tried from ticks ticked before now (statements script) (Ok refused) × (left ≡ []) × (length script ≤ limit)
-TryHeadline from ticks ticked before now limit script left (Err (Stopped stop)) = Tried from ticks ticked before now (statements script) (Err stop)
+TryHeadline from ticks ticked before now limit script left (Err (Stopped stop)) = Tried from ticks ticked before now (statements script) (Err stop) × (length script ≤ limit + length left)
 TryHeadline from ticks ticked before now limit script left (Err Source) =
-    (taken : List ℕ) × (script ≡ taken ++ left) × (refused : Bool) × Tried from ticks ticked before now (cut taken).pieces (Ok refused)
+    (taken : List ℕ) × (script ≡ taken ++ left) × (length taken ≤ limit) × (refused : Bool) × Tried from ticks ticked before now (cut taken).pieces (Ok refused)
 TryHeadline from ticks ticked before now limit script left (Err Full) =
-    (limit < length script) × (refused : Bool) × Tried from ticks ticked before now (cut (take limit script)).pieces (Ok refused)
+    (limit + length left < length script) × (refused : Bool) × Tried from ticks ticked before now (cut (take limit script)).pieces (Ok refused)

@@ -7,6 +7,8 @@ ghost use Rattle.gx_database.specs.Standing.{StandsFor};
 ghost use Rattle.gx_model.specs.Runs.{start};
 ghost use Rattle.gx_pages.specs.Databases.{empty_pages};
 ghost use Rattle.gx_run.specs.Lines.{IsDiskKept};
+ghost use Rattle.gx_run.specs.Scripts.{Takes};
+ghost use Rattle.gx_run.specs.Statuses.{IsWithout};
 ghost use Rattle.gx_run.specs.Try.{TryHeadline};
 
 use crate::halt::Halt;
@@ -27,11 +29,12 @@ pub fn run_in_memory<E: Execute, S: Source, H: Host, L: Ledger>(
     host: &mut H,
     steps: &mut Steps<L>,
 ) -> Result<bool, Halt>
-    ensures headline { S.tells → H.tells → (script : List ℕ) → S.told source.old ≡ script → (db : Database) → StandsFor empty_pages db
-        → TryHeadline (start db 2) steps.old steps.new (H.said host.old).bytes (H.said host.new).bytes LIMIT script (S.told source.new) result }
+    ensures headline { H.tells → (db : Database) → StandsFor empty_pages db → IsWithout result × (S.tells → (script : List ℕ) → S.told source.old ≡ script
+        → TryHeadline (start db 2) steps.old steps.new (H.said host.old).bytes (H.said host.new).bytes LIMIT script (S.told source.new) result) }
     ensures disk { IsDiskKept H.Disk host.old host.new }
     ensures no_disk { result ≢ Err (Halt.Stopped Stop.Disk) }
     ensures answer_rose { result ≡ Err (Halt.Stopped Stop.Answer) → Rose (H.said host.old).faults (H.said host.new).faults }
+    ensures length { S.tells → Takes LIMIT (S.told source.old) (S.told source.new) result }
     ensures source_rose { result ≡ Err Halt.Source → Rose (S.faults source.old) (S.faults source.new) }
     ensures counted { ((H.said host.old).faults ≤ (H.said host.new).faults) × (S.faults source.old ≤ S.faults source.new) }
 {

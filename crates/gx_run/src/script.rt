@@ -5,8 +5,9 @@ ghost use Rattle.gx_words.specs.Causes.{Rose};
 ghost use Rattle.gx_lexer.specs.Cut.{cut};
 ghost use Rattle.gx_lexer.specs.Feeding.{Fed};
 ghost use Rattle.gx_model.specs.Runs.{State};
-ghost use Rattle.gx_run.specs.Scripts.{RanScript, RanMore};
+ghost use Rattle.gx_run.specs.Scripts.{RanScript, RanMore, Takes};
 ghost use Rattle.gx_run.specs.Moves.{Ran};
+ghost use Rattle.gx_run.specs.Statuses.{IsWithout};
 
 use crate::desk::Desk;
 use crate::halt::Halt;
@@ -32,8 +33,9 @@ pub fn run_script<E: Execute, S: Source, D: Desk, L: Ledger>(
     steps: &mut Steps<L>,
 ) -> Result<bool, Halt>
     requires { D.ready desk.old }
-    ensures headline { S.tells → D.tells → (script : List ℕ) → S.told source.old ≡ script → (from : State) → D.is_at desk.old from
-        → RanScript D.moment D.may_have_left_since D.may_leave D.said D.is_at D.emptied steps.old steps.new desk.old desk.new from LIMIT script (S.told source.new) result }
+    ensures headline { D.tells → (from : State) → D.is_at desk.old from → IsWithout result × (S.tells → (script : List ℕ) → S.told source.old ≡ script
+        → RanScript D.moment D.may_have_left_since D.may_leave D.said D.is_at D.emptied steps.old steps.new desk.old desk.new from LIMIT script (S.told source.new) result) }
+    ensures length { S.tells → Takes LIMIT (S.told source.old) (S.told source.new) result }
     ensures follows { D.follows desk.old desk.new }
     ensures rose { result ≡ Err (Halt.Stopped Stop.Disk) → D.on_disk × Rose (D.disk_faults desk.old) (D.disk_faults desk.new) }
     ensures answer_rose { result ≡ Err (Halt.Stopped Stop.Answer) → Rose (D.said desk.old).faults (D.said desk.new).faults }

@@ -8,6 +8,8 @@ ghost use Rattle.gx_pager.specs.Openings.{OpenBroken};
 ghost use Rattle.gx_model.specs.Database.{Database};
 ghost use Rattle.gx_database.specs.Standing.{StandsFor};
 ghost use Rattle.gx_model.specs.Runs.{start};
+ghost use Rattle.gx_run.specs.Scripts.{Takes};
+ghost use Rattle.gx_run.specs.Statuses.{IsWithout};
 ghost use Rattle.gx_run.specs.Top.{ScriptHeadline, OpensBroken, stopped_by};
 
 use crate::file::FileDesk;
@@ -29,11 +31,12 @@ pub fn run_on_file<E: Execute, S: Source, H: Host, L: Ledger>(
     host: &mut H,
     steps: &mut Steps<L>,
 ) -> Result<bool, Halt>
-    ensures headline { S.tells → H.tells → (script : List ℕ) → S.told source.old ≡ script
-        → (db : Database) (map : PageMap) → HasMap (H.told host.old) map → StandsFor map db
-        → ScriptHeadline H.Disk steps.old steps.new host.old host.new (start db (count_in (map 0))) LIMIT script (S.told source.new) result }
+    ensures headline { H.tells → (db : Database) (map : PageMap) → HasMap (H.told host.old) map → StandsFor map db
+        → IsWithout result × (S.tells → (script : List ℕ) → S.told source.old ≡ script
+        → ScriptHeadline H.Disk steps.old steps.new host.old host.new (start db (count_in (map 0))) LIMIT script (S.told source.new) result) }
     ensures rose { result ≡ Err (Halt.Stopped Stop.Disk) → Rose (H.faults host.old) (H.faults host.new) }
     ensures answer_rose { result ≡ Err (Halt.Stopped Stop.Answer) → Rose (H.said host.old).faults (H.said host.new).faults }
+    ensures length { S.tells → Takes LIMIT (S.told source.old) (S.told source.new) result }
     ensures source_rose { result ≡ Err Halt.Source → Rose (S.faults source.old) (S.faults source.new) }
     ensures numbers { (page expected found : ℕ) → result ≡ Err (Halt.Stopped (Stop.Broken page expected found)) → expected ≢ found }
     ensures opening { H.tells → (page expected found : ℕ) → OpenBroken (H.told host.old) page expected found → OpensBroken H.Disk host.old host.new result }

@@ -1,7 +1,5 @@
 -- How the store of a session moves, call by call.
 use Rattle.std.proofs.Common.{◌≡◌, ◌⊎◌, inl, inr, ℕ, ◌+◌, ◌<◌, ◌≤◌, Bool, true, false, nat_lt, List, Some, None, refl, sym, ◌∙◌, ap, subst, arith}
-use Rattle.std.specs.Prelude.{IsSome, Option}
-use Rattle.std.proofs.lemmas.Bool.Decides.{nat_tests}
 use Rattle.gx_words.specs.Causes.{Said}
 use Rattle.gx_words.specs.Moments.{Moment, Now}
 use Rattle.gx_words.specs.PageMap.{PageMap}
@@ -9,13 +7,12 @@ use Rattle.gx_pages.specs.declared.store.Pages.{Ghosts}
 use Rattle.gx_pages.specs.Footprints.{StaysQuiet}
 use Rattle.gx_pages.specs.Pages.{Beside, HasNoGap}
 use Rattle.gx_database.specs.Standing.{StandsFor}
-use Rattle.gx_database.proofs.There.{all_there}
 use Rattle.gx_model.specs.Database.{Database}
 use Rattle.gx_model.specs.Replies.{Reply}
 use Rattle.gx_model.specs.Runs.{Answers}
 use Rattle.gx_model.specs.Turns.{Session, Block, idle, begun, failed, broken_off, refused_in, seen, seen_in, seen_as, with_seen, session_over, Turned, Turns}
 use Rattle.gx_engine.specs.Times.{Between}
-use Rattle.gx_engine.specs.Engines.{IsIn, HasAtMost, Executed, Stopped, Unmade, kind_of}
+use Rattle.gx_engine.specs.Engines.{IsIn, IsSettled, HasAtMost, Executed, Stopped, Unmade, kind_of}
 use Rattle.gx_engine.specs.declared.engine.Kind.{Kind}
 use Rattle.gx_engine.specs.declared.engine.Kind.TheVariants.{Idle, Begun, Failed}
 use Rattle.gx_session.specs.Moves.{Keeps, MayCommit, Moved, MayHaveMoved, GoesOn, broken}
@@ -43,26 +40,6 @@ outside idle committed db e = refl
 outside (begun own) committed db e = cc
 outside failed committed db e = cc
 
--- Below a page that is there none is lacking.
-
-there_not : (o : Option (List ℕ)) → o ≡ None → IsSome o → ⊥
-there_not None e h = cc
-there_not (Some x) e h = cc
-
-pub no_gap : (map : PageMap) (db : Database) → StandsFor map db → HasNoGap map
-no_gap map db s n k lt there =
-    elim (nat_or k s.count) [
-      | inl below ↦ all_there map db s n (omega (arith, lt, below))
-      | inr above ↦ absurd (there_not (map k) (s.ends k above) there)
-    ]
-  where
-    nat_or : (a b : ℕ) → (a < b) ⊎ (b ≤ a)
-    nat_or a b = cases (nat_lt a b) refl
-      where
-        cases : (t : Bool) → nat_lt a b ≡ t → (a < b) ⊎ (b ≤ a)
-        cases true e = inl (grind (arith, nat_tests))
-        cases false e = inr (grind (arith, nat_tests))
-
 module _ {P : Type 0} (g : Ghosts P) where
   -- Nothing committed.
 
@@ -73,15 +50,16 @@ module _ {P : Type 0} (g : Ghosts P) where
   LeftOr s db m = (g.may_leave s m.image ⊎ StandsFor m.image db) × (m.bytes ≡ (g.said s).bytes)
 
   pub unmade_still : (s : P) → Unmade g s s
-  unmade_still s = record { left = λ map l. l; time = still g.moment g.may_have_left_since s (Left s) }
+  unmade_still s = record { committed = λ tells. refl; left = λ map l. l; time = still g.moment g.may_have_left_since s (Left s) }
 
   pub unmade_quiet : (a b : P) → StaysQuiet g a b → Unmade g a b
-  unmade_quiet a b q = record { left = q.images; time = q.time }
+  unmade_quiet a b q = record { committed = λ tells. q.committed; left = q.images; time = q.time }
 
   pub unmade_then : (a b c : P) → g.said b ≡ g.said a → Unmade g a b → Unmade g b c → Unmade g a c
   unmade_then a b c said u v =
       let same : (g.said b).bytes ≡ (g.said a).bytes = ap (λ (s : Said). s.bytes) said in
       record {
+        committed = λ tells. v.committed tells ∙ u.committed tells;
         left = λ map l. u.left map (v.left map l);
         time = joins g.moment g.may_have_left_since a b c (Left a) (Left b) (Left a) (λ m p. p) (λ m q. (u.left m.image q.0, q.1 ∙ same)) u.time v.time;
       }
@@ -198,6 +176,14 @@ module _ {P : Type 0} (g : Ghosts P) where
       by_block idle e = absurd (not_idle e)
       by_block (begun own) e = moved_still s kind (record { committed = session.committed; block = begun db }) (record { block = e; committed = k.committed; map = stands; left = k.left })
       by_block failed e = absurd (not_failed e)
+
+  -- what was given up
+  pub settled_by : (a b : P) → g.map b ≡ g.committed a → g.count b ≡ g.committed_count a → g.committed b ≡ g.committed a → g.committed_count b ≡ g.committed_count a → IsSettled g b
+  settled_by a b map count committed committed_count = record { map = map ∙ sym committed; count = count ∙ sym committed_count }
+
+  -- what was committed
+  pub settled_commit : (b c : P) → g.committed c ≡ g.map b → g.committed_count c ≡ g.count b → g.map c ≡ g.map b → g.count c ≡ g.count b → IsSettled g c
+  settled_commit b c committed committed_count map count = record { map = map ∙ sym committed; count = count ∙ sym committed_count }
 
   -- What executing leaves.
 

@@ -1,10 +1,18 @@
 -- What is so of results.
-use Rattle.std.proofs.Common.{◌≡◌, ℕ, ◌≤◌, Result, Ok, Err, OnOk, IfOk, IfErr, refl, sym, ap, subst}
+use Rattle.std.proofs.Common.{◌≡◌, ℕ, ◌≤◌, Some, None, Result, Ok, Err, OnOk, IfOk, IfErr, refl, sym, ap, subst}
+use Rattle.gx_engine.specs.declared.engine.Kind.{Kind}
+use Rattle.gx_engine.specs.declared.engine.Kind.TheVariants.{Idle, Begun}
 use Rattle.gx_pages.specs.declared.error.PageError.{PageError}
 use Rattle.gx_pages.specs.declared.error.PageError.TheVariants.{DiskFault, Broken, PageSpace, Memory}
 use Rattle.gx_chain.specs.Chains.{IsSound}
 use Rattle.gx_pages.specs.Pages.{HasCause}
 use Rattle.gx_pages.proofs.Footprints.{cause_weaker}
+
+pub never : (n : ℕ) → Some n ≡ None → ⊥
+never n e = cc
+
+pub begun_not_idle : (now : Kind) → now ≡ Begun → now ≡ Idle → ⊥
+begun_not_idle now begun idle = cc
 
 pub on_ok_then : {T E : Type 0} (result : Result T E) (P Q : Type 0) → (P → Q) → OnOk result P → OnOk result Q
 on_ok_then (Ok value) P Q f p = f p
@@ -13,6 +21,10 @@ on_ok_then (Err error) P Q f p = tt
 pub if_ok_then : {T E : Type 0} (result : Result T E) (P Q : T → Type 0) → ((x : T) → P x → Q x) → IfOk result P → IfOk result Q
 if_ok_then (Ok value) P Q f p = f value p
 if_ok_then (Err error) P Q f p = tt
+
+pub on_ok_if : {T E : Type 0} (result : Result T E) (P : Type 0) → P → OnOk result P
+on_ok_if (Ok value) P p = p
+on_ok_if (Err error) P p = tt
 
 pub if_ok_both : {T E : Type 0} (result : Result T E) (P : T → Type 0) (X : Type 0) (Q : T → Type 0) → ((x : T) → P x → X → Q x) → IfOk result P → OnOk result X → IfOk result Q
 if_ok_both (Ok value) P X Q f p x = f value p x

@@ -324,3 +324,29 @@ checkpoint_still kind s t is not e =
     let which = is_checkpoint t not e in
     let Still : Task → Type 0 = λ x. IsStill x in
     (subst Still (sym which) tt, outside_alone kind s (sym is ∙ which))
+
+-- VACUUM works outside a block alone, and changes no database.
+
+pub vacuum_outside : (kind : Kind) (s : Said) (table : List ℕ) → s ≡ said.Vacuum table → task_in kind s ≡ task.Work → kind ≡ Idle
+vacuum_outside kind s table is work = by kind (sym (ap (λ (x : Said). task_in kind x) is) ∙ work)
+  where
+    by : (k : Kind) → task_in k (said.Vacuum table) ≡ task.Work → k ≡ Idle
+    by Idle e = refl
+    by Begun e = cc
+    by Failed e = cc
+
+pub vacuum_keeps : (db : Database) (table : List ℕ) (d : Stepped) → Steps db (said.Vacuum table) d → d.database ≡ db
+vacuum_keeps db table d (inl refuses) = ap (λ (x : Stepped). x.database) refuses.2
+vacuum_keeps db table d (inr does) = ap (λ (x : Stepped). x.database) does.1
+
+refused_none : (n : ℕ) → Some n ≡ None → ⊥
+refused_none n e = cc
+
+-- VACUUM is refused where it doesn't work.
+pub vacuum_refused : (kind : Kind) (s : Said) (table : List ℕ) (t : Task) → s ≡ said.Vacuum table → t ≡ task_in kind s → (t ≡ task.Work → ⊥) → (reply_to t).fault ≡ None → ⊥
+vacuum_refused kind s table t is same not none = by kind t (same ∙ ap (λ (x : Said). task_in kind x) is) not none
+  where
+    by : (k : Kind) (x : Task) → x ≡ task_in k (said.Vacuum table) → (x ≡ task.Work → ⊥) → (reply_to x).fault ≡ None → ⊥
+    by Idle x e never no_fault = never e
+    by Begun x e never no_fault = let Fault : Task → Type 0 = λ y. (reply_to y).fault ≡ None in refused_none 23 (subst Fault e no_fault)
+    by Failed x e never no_fault = let Fault : Task → Type 0 = λ y. (reply_to y).fault ≡ None in refused_none 22 (subst Fault e no_fault)

@@ -7,11 +7,14 @@ use Rattle.gx_database.specs.Standing.{StandsFor}
 use Rattle.gx_model.specs.Database.{Database}
 use Rattle.gx_model.specs.Replies.{Reply, refusal}
 use Rattle.gx_model.specs.Runs as runs
+use Rattle.gx_model.specs.Steps.{Stepped, Steps}
 use Rattle.gx_model.specs.Turns.{Session, Turned, refused_in, seen}
-use Rattle.gx_parse.specs.Said.{Said}
-use Rattle.gx_engine.specs.Engines.{IsIn, HasAtMost, Executed, Stopped, Unmade}
+use Rattle.gx_parse.specs.Said.{Said, Vacuum}
+use Rattle.gx_engine.specs.Engines.{IsIn, HasAtMost, Executed, Stopped, Unmade, kind_of}
+use Rattle.gx_engine.specs.Vacuumed.{IsVacuumed}
 use Rattle.gx_engine.specs.declared.engine.Kind.{Kind}
-use Rattle.gx_step.specs.Doing.{Done, IsOrdinary, LacksRoom}
+use Rattle.gx_engine.specs.declared.engine.Kind.TheVariants.{Idle}
+use Rattle.gx_step.specs.Doing.{Done, IsOrdinary, LacksRoom, Vacuums}
 use Rattle.gx_session.specs.Moves.{Keeps, Moved, MayHaveMoved, behind}
 use Rattle.gx_session.specs.Readings.{ReadAs}
 use Rattle.gx_session.specs.Tasks.{task_in}
@@ -77,3 +80,16 @@ module _ {P : Type 0} (g : Ghosts P) (a b c d : P) (kind : Kind) (session : Sess
       moving.executed g a c d next session (refused_in session) text reply t.turned (turning.turn_of session text s t.turned read t.turns)
       (inr (record { accepted = l.accepted; grows = l.grows; full = omega (arith, full, count) }, is_20, refl))
       (λ pages h. let made = h.committed in shrinks (pages + t.turned.growth) (omega (arith, made, kept, committed_count))) said_so first (moved session keeps)
+
+-- An accepted VACUUM.
+module _ {P : Type 0} (g : Ghosts P) (b c d : P) (kind : Kind) (session : Session) (s : Said) (block : kind ≡ kind_of session.block) (work : task_in kind s ≡ task.Work) where
+  vacuumed_at : (next : Said) (stepped : Stepped) → Steps (seen session) s stepped → Vacuums s stepped (g.map c) → s ≡ next → Steps (seen session) next stepped × Vacuums next stepped (g.map c)
+  vacuumed_at next stepped steps vacuums same = (subst (λ (x : Said). Steps (seen session) x stepped) same steps, subst (λ (x : Said). Vacuums x stepped (g.map c)) same vacuums)
+
+  pub vacuumed_so : (reply other : Reply) (table : List ℕ) → Done g b c s (seen session) reply → other ≡ reply → other.fault ≡ None → s ≡ Vacuum table → g.map d ≡ g.map c → IsVacuumed (g.map d) session.committed table
+  vacuumed_so reply other table done same none is_vacuum map =
+      let at = vacuumed_at (Vacuum table) done.stepped done.steps done.vacuumed is_vacuum in
+      let left = at.1 (ap (λ (r : Reply). r.fault) (done.answered ∙ sym same) ∙ none) in
+      let outside : Idle ≡ kind_of session.block = sym (turning.vacuum_outside kind s table is_vacuum work) ∙ block in
+      let db : done.stepped.database ≡ session.committed = turning.vacuum_keeps (seen session) table done.stepped at.0 ∙ moving.seen_outside session.block session.committed outside in
+      subst (λ (m : PageMap). IsVacuumed m session.committed table) (sym map) (subst (λ (x : Database). IsVacuumed (g.map c) x table) db left)

@@ -1,11 +1,12 @@
 //! Statements in a session.
 
-ghost use Rattle.std.specs.Prelude.{◌≡◌, ◌⊎◌, ℕ, ◌+◌, ◌≤◌, false, List, [], Err, IfOk, IfErr, OnOk};
+ghost use Rattle.std.specs.Prelude.{◌≡◌, ◌⊎◌, ℕ, ◌+◌, ◌≤◌, false, List, [], None, Err, IfOk, IfErr, OnOk};
 ghost use Rattle.gx_chain.specs.Chains.{IsSound as IsUnbroken};
 ghost use Rattle.gx_pages.specs.Pages.{Beside, HasCause};
 ghost use Rattle.gx_model.specs.Turns.{Session, TurnCosts};
-ghost use Rattle.gx_engine.specs.Engines.{IsIn, Executed, Stopped, Unmade, reply_of, checkpoint_reply};
-ghost use Rattle.gx_parse.specs.Said.{said_of};
+ghost use Rattle.gx_engine.specs.Engines.{IsIn, IsSettled, Executed, Stopped, Unmade, reply_of, checkpoint_reply};
+ghost use Rattle.gx_engine.specs.Vacuumed.{IsVacuumed};
+ghost use Rattle.gx_parse.specs.Said.{Vacuum, said_of};
 ghost use Rattle.gx_parse.specs.Sound.{IsSound};
 ghost use Rattle.gx_session.specs.Moves.{GoesOn, Moved, MayHaveMoved};
 ghost use Rattle.gx_session.specs.Readings.{ReadAs};
@@ -32,6 +33,10 @@ pub fn execute_statement<P: Store, L: Ledger>(
     requires grammar { IsSound (said_of statement.now) }
     ensures executed { IfOk result (λ reply. P.tells → (session : Session) (text : List ℕ) → IsIn P.Pages store.old kind.old session → ReadAs text (said_of statement.now)
         → Executed P.Pages store.old store.new kind.new session text (reply_of reply)) }
+    ensures settled { OnOk result (P.tells → (session : Session) → IsIn P.Pages store.old kind.old session → (kind.old ≡ Kind.Idle → IsSettled P.Pages store.old)
+        → kind.new ≡ Kind.Idle → IsSettled P.Pages store.new) }
+    ensures vacuumed { IfOk result (λ reply. reply.fault ≡ None → P.tells → (session : Session) (table : List ℕ) → IsIn P.Pages store.old kind.old session
+        → said_of statement.now ≡ Vacuum table → IsVacuumed (P.map store.new) session.committed table) }
     ensures stopped { result ≡ Err PageError.DiskFault → P.tells → (session : Session) (text : List ℕ) → IsIn P.Pages store.old kind.old session → ReadAs text (said_of statement.now)
         → Unmade P.Pages store.old store.new ⊎ Stopped P.Pages store.old store.new session text }
     ensures memory { result ≡ Err PageError.Memory → P.tells → (session : Session) → IsIn P.Pages store.old kind.old session → Unmade P.Pages store.old store.new }
@@ -63,6 +68,8 @@ fn answer_task<P: Store>(
     requires kind { IsFor kind.old task }
     ensures reply { IfOk result (λ reply. reply_of reply ≡ reply_to task) }
     ensures moved { OnOk result (P.tells → (session : Session) → IsIn P.Pages store.old kind.old session → Moved P.Pages store.old store.new kind.new (after_of task session)) }
+    ensures settled { OnOk result (P.tells → (session : Session) → IsIn P.Pages store.old kind.old session → (kind.old ≡ Kind.Idle → IsSettled P.Pages store.old)
+        → kind.new ≡ Kind.Idle → IsSettled P.Pages store.new) }
     ensures disk { result ≡ Err PageError.DiskFault → P.tells → (session : Session) → IsIn P.Pages store.old kind.old session
         → MayHaveMoved P.Pages store.old store.new (after_of task session).committed }
     ensures memory { result ≡ Err PageError.Memory → P.tells → (session : Session) → IsIn P.Pages store.old kind.old session → Unmade P.Pages store.old store.new }
@@ -84,6 +91,8 @@ fn carry_out<P: Store>(store: &mut P, kind: &mut Kind, task: Task) -> Result<(),
     requires sound { P.spoiled store.old ≡ false }
     requires kind { IsFor kind.old task }
     ensures moved { OnOk result (P.tells → (session : Session) → IsIn P.Pages store.old kind.old session → Moved P.Pages store.old store.new kind.new (after_of task session)) }
+    ensures settled { OnOk result (P.tells → (session : Session) → IsIn P.Pages store.old kind.old session → (kind.old ≡ Kind.Idle → IsSettled P.Pages store.old)
+        → kind.new ≡ Kind.Idle → IsSettled P.Pages store.new) }
     ensures disk { result ≡ Err PageError.DiskFault → P.tells → (session : Session) → IsIn P.Pages store.old kind.old session
         → MayHaveMoved P.Pages store.old store.new (after_of task session).committed }
     ensures memory { result ≡ Err PageError.Memory → P.tells → (session : Session) → IsIn P.Pages store.old kind.old session → Unmade P.Pages store.old store.new }

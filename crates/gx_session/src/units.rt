@@ -5,7 +5,7 @@ ghost use Rattle.gx_pages.specs.Pages.{Beside, HasCause};
 ghost use Rattle.gx_database.specs.Standing.{StandsFor};
 ghost use Rattle.gx_model.specs.Database.{Database};
 ghost use Rattle.gx_model.specs.Turns.{Session, begun, refused_in, session_over, with_seen};
-ghost use Rattle.gx_engine.specs.Engines.{HasAtMost, IsIn, Unmade};
+ghost use Rattle.gx_engine.specs.Engines.{HasAtMost, IsIn, IsSettled, Unmade};
 ghost use Rattle.gx_session.specs.Moves.{Keeps, Moved, MayHaveMoved, broken};
 
 use gx_engine::Kind;
@@ -43,6 +43,7 @@ pub fn open_block<P: Store>(store: &mut P, kind: &mut Kind)
 /// Gives up what wasn't committed. An open block has failed then.
 pub fn break_off<P: Store>(store: &mut P, kind: &mut Kind)
     ensures moved { P.tells → (session : Session) → Keeps P.Pages store.old kind.old session → Moved P.Pages store.old store.new kind.new (refused_in session) }
+    ensures settled { P.tells → IsSettled P.Pages store.new }
     ensures shrinks { (pages : ℕ) → P.committed_count store.old ≤ pages → HasAtMost P.Pages store.new pages }
     ensures unmade { Unmade P.Pages store.old store.new }
     ensures beside { Beside P.said P.fetches P.heap_fetches P.faults P.follows store.old store.new }
@@ -65,6 +66,7 @@ fn broken_off(kind: Kind) -> Kind
 /// Gives up what wasn't committed, and leaves the block.
 pub fn roll_back<P: Store>(store: &mut P, kind: &mut Kind)
     ensures moved { P.tells → (session : Session) → Keeps P.Pages store.old kind.old session → Moved P.Pages store.old store.new kind.new (session_over session.committed) }
+    ensures settled { P.tells → IsSettled P.Pages store.new }
     ensures beside { Beside P.said P.fetches P.heap_fetches P.faults P.follows store.old store.new }
     ensures sound { P.spoiled store.new ≡ P.spoiled store.old }
 {
@@ -77,6 +79,8 @@ pub fn commit<P: Store>(store: &mut P, kind: &mut Kind) -> Result<(), PageError>
     requires { P.spoiled store.old ≡ false }
     ensures moved { OnOk result (P.tells → (session : Session) (db : Database) → Keeps P.Pages store.old kind.old session → StandsFor (P.map store.old) db
         → Moved P.Pages store.old store.new kind.new (session_over db)) }
+    ensures settled { OnOk result (P.tells → (session : Session) → Keeps P.Pages store.old kind.old session → IsSettled P.Pages store.new) }
+    ensures map { OnOk result (P.tells → (session : Session) → Keeps P.Pages store.old kind.old session → P.map store.new ≡ P.map store.old) }
     ensures disk { result ≡ Err PageError.DiskFault → P.tells → (session : Session) (db : Database) → Keeps P.Pages store.old kind.old session → StandsFor (P.map store.old) db
         → MayHaveMoved P.Pages store.old store.new db }
     ensures memory { result ≡ Err PageError.Memory → P.tells → (session : Session) → Keeps P.Pages store.old kind.old session → Unmade P.Pages store.old store.new }
@@ -96,6 +100,8 @@ pub fn end_unit<P: Store>(store: &mut P, kind: &mut Kind) -> Result<(), PageErro
     requires sees { kind.old ≢ Kind.Failed }
     ensures moved { OnOk result (P.tells → (session : Session) (db : Database) → Keeps P.Pages store.old kind.old session → StandsFor (P.map store.old) db
         → Moved P.Pages store.old store.new kind.new (with_seen session db)) }
+    ensures settled { OnOk result (P.tells → (session : Session) → Keeps P.Pages store.old kind.old session → kind.new ≡ Kind.Idle → IsSettled P.Pages store.new) }
+    ensures map { OnOk result (P.tells → (session : Session) → Keeps P.Pages store.old kind.old session → P.map store.new ≡ P.map store.old) }
     ensures disk { result ≡ Err PageError.DiskFault → P.tells → (session : Session) (db : Database) → Keeps P.Pages store.old kind.old session → StandsFor (P.map store.old) db
         → MayHaveMoved P.Pages store.old store.new (with_seen session db).committed }
     ensures memory { result ≡ Err PageError.Memory → P.tells → (session : Session) → Keeps P.Pages store.old kind.old session → Unmade P.Pages store.old store.new }

@@ -6,12 +6,12 @@ ghost use Rattle.gx_pages.specs.Footprints.{StaysQuiet};
 ghost use Rattle.gx_pages.specs.Pages.{Beside, HasCause};
 ghost use Rattle.gx_database.specs.Standing.{StandsFor};
 ghost use Rattle.gx_model.specs.Database.{Database};
-ghost use Rattle.gx_model.specs.Steps.{Costs};
 ghost use Rattle.gx_model.specs.Turns.{Session, TurnCosts};
-ghost use Rattle.gx_engine.specs.Engines.{IsIn, Executed, Stopped, Unmade, reply_of};
-ghost use Rattle.gx_parse.specs.Said.{said_of};
+ghost use Rattle.gx_engine.specs.Engines.{IsIn, IsSettled, Executed, Stopped, Unmade, reply_of};
+ghost use Rattle.gx_engine.specs.Vacuumed.{IsVacuumed};
+ghost use Rattle.gx_parse.specs.Said.{Vacuum, said_of};
 ghost use Rattle.gx_parse.specs.Sound.{IsSound};
-ghost use Rattle.gx_step.specs.Doing.{Done, IsOrdinary, LacksRoom};
+ghost use Rattle.gx_step.specs.Doing.{AtMostCosts, DoneFor, IsOrdinary, LackRoomFor, StandForNone};
 ghost use Rattle.gx_statement.specs.Work.{IsWork};
 ghost use Rattle.gx_session.specs.Moves.{GoesOn, Keeps, Moved, MayHaveMoved, behind};
 ghost use Rattle.gx_session.specs.Readings.{ReadAs};
@@ -41,6 +41,9 @@ pub fn work<P: Store, L: Ledger>(
     requires grammar { IsSound (said_of statement.now) }
     ensures executed { IfOk result (λ reply. P.tells → (session : Session) (text : List ℕ) → IsIn P.Pages store.old kind.old session → ReadAs text (said_of statement.now)
         → Executed P.Pages store.old store.new kind.new session text (reply_of reply)) }
+    ensures settled { OnOk result (P.tells → (session : Session) → IsIn P.Pages store.old kind.old session → kind.new ≡ Kind.Idle → IsSettled P.Pages store.new) }
+    ensures vacuumed { IfOk result (λ reply. reply.fault ≡ None → P.tells → (session : Session) (table : List ℕ) → IsIn P.Pages store.old kind.old session
+        → said_of statement.now ≡ Vacuum table → IsVacuumed (P.map store.new) session.committed table) }
     ensures stopped { result ≡ Err PageError.DiskFault → P.tells → (session : Session) (text : List ℕ) → IsIn P.Pages store.old kind.old session → ReadAs text (said_of statement.now)
         → Unmade P.Pages store.old store.new ⊎ Stopped P.Pages store.old store.new session text }
     ensures memory { result ≡ Err PageError.Memory → P.tells → (session : Session) → IsIn P.Pages store.old kind.old session → Unmade P.Pages store.old store.new }
@@ -71,6 +74,8 @@ fn settle<P: Store>(store: &mut P, kind: &mut Kind, reply: Reply) -> Result<Repl
     ensures reply { IfOk result (λ same. same ≡ reply) }
     ensures moved { OnOk result (P.tells → (session : Session) (db : Database) → Keeps P.Pages store.old kind.old session → StandsFor (P.map store.old) db
         → Moved P.Pages store.old store.new kind.new (behind reply.fault session db)) }
+    ensures settled { OnOk result (P.tells → (session : Session) → Keeps P.Pages store.old kind.old session → kind.new ≡ Kind.Idle → IsSettled P.Pages store.new) }
+    ensures map { OnOk result (reply.fault ≡ None → P.tells → (session : Session) → Keeps P.Pages store.old kind.old session → P.map store.new ≡ P.map store.old) }
     ensures disk { result ≡ Err PageError.DiskFault → P.tells → (session : Session) (db : Database) → Keeps P.Pages store.old kind.old session → StandsFor (P.map store.old) db
         → MayHaveMoved P.Pages store.old store.new (behind reply.fault session db).committed }
     ensures memory { result ≡ Err PageError.Memory → P.tells → (session : Session) → Keeps P.Pages store.old kind.old session → Unmade P.Pages store.old store.new }
@@ -98,14 +103,13 @@ fn try_step<P: Pages, L: Ledger>(
     steps: &mut Steps<L>,
 ) -> Result<Option<Reply>, PageError>
     requires { IsSound (said_of statement.now) }
-    ensures done { IfOk result (λ replied. IfSome replied (λ reply. P.tells → (db : Database) → StandsFor (P.map pages.old) db
-        → Done P.Pages pages.old pages.new (said_of statement.now) db (reply_of reply))) }
-    ensures full { result ≡ Ok None → P.tells → (db : Database) → StandsFor (P.map pages.old) db → LacksRoom (P.count pages.old) (said_of statement.now) db }
+    ensures done { IfOk result (λ replied. IfSome replied (DoneFor P.Pages pages.old pages.new (said_of statement.now))) }
+    ensures full { result ≡ Ok None → LackRoomFor P.Pages pages.old (said_of statement.now) }
     ensures ordinary { IsWork (said_of statement.now) → IfOk result (λ replied. IfSome replied (λ reply. IsOrdinary (reply_of reply))) }
     ensures cause { IfErr result (HasCause (P.faults pages.old) (P.faults pages.new)
-        (λ at expected found. P.tells → (db : Database) → StandsFor (P.map pages.old) db → ⊥) (λ _. ⊥) (Unit {0})) }
+        (λ at expected found. StandForNone P.Pages pages.old) (λ _. ⊥) (Unit {0})) }
     ensures least { IsUnbroken result → P.heap_fetches pages.new + steps.old ≤ P.heap_fetches pages.old + steps.new }
-    ensures most { P.tells → (db : Database) → StandsFor (P.map pages.old) db → (n : ℕ) → Costs db (said_of statement.now) n → steps.new ≤ steps.old + n }
+    ensures most { AtMostCosts P.Pages pages.old (said_of statement.now) steps.old steps.new }
     ensures quiet { StaysQuiet P.Pages pages.old pages.new }
 {
     match step(alloc, pages, statement, steps) {

@@ -22,16 +22,18 @@ returns-clause-outcome g c =
     let Spoken : g.row.H.Denot → Type 0 = λ h. Rose (disk.said old).faults (disk.said h).faults in
     record {
       run = λ read tells db pages has stands.
-          facts.file_run disk c.args.steps.now c.run_on_file-end.new.steps old mid new (start db (count_in (pages 0))) LIMIT (source.told c.args.source.now) (source.told taking) end status done.same
-          (ran.headline read tells (source.told c.args.source.now) refl db pages has stands);
-      complete = λ read tells db pages has stands s d a.
-          let h = ran.headline read tells (source.told c.args.source.now) refl db pages has stands in
-          let w = facts.file_without disk c.args.steps.now c.run_on_file-end.new.steps old mid new (start db (count_in (pages 0))) LIMIT (source.told c.args.source.now) (source.told taking) end h in
+          let h = ran.headline tells db pages has stands in
+          facts.file_run disk c.args.steps.now c.run_on_file-end.new.steps old mid new (start db (count_in (pages 0))) LIMIT (source.told c.args.source.now) (source.told taking) end status done.same h.0
+          (h.1 read (source.told c.args.source.now) refl);
+      sound = λ tells db pages has stands. let h = ran.headline tells db pages has stands in facts.never_six end status (done.same h.0).0 h.0;
+      complete = λ tells db pages has stands s d a.
+          let w = (ran.headline tells db pages has stands).0 in
           facts.completes end status (done.same w).0 w (λ e. d (subst Faults (sym done.disk.faults) (ran.rose e))) (λ e. a (subst Spoken (sym (done.same w).1) (ran.answer_rose e))) (λ e. s (ran.source_rose e));
       broken = λ tells page expected found broken d a.
           facts.refused_as disk tells old mid new end status done.same done.broken done.disk.told (ran.opening tells page expected found broken) (λ e. d (subst Faults (sym done.disk.faults) (ran.rose e))) a;
       numbers = λ e. facts.number_cause disk mid new end status done.same done.broken ran.numbers e;
-      known = facts.never_two disk mid new end status done.same done.broken;
+      limit = λ read. facts.takes_by disk mid new end status done.same done.broken LIMIT (source.told c.args.source.now) (source.told taking) (ran.length read);
+      known = facts.known disk mid new end status done.same done.broken;
     }
 
 pub returns-clause-disk_rose : goal.returns-clause-disk_rose

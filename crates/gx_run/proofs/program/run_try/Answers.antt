@@ -22,11 +22,12 @@ returns-clause-outcome g c =
     let Spoken : g.row.H.Denot → Type 0 = λ h. Rose (disk.said old).faults (disk.said h).faults in
     record {
       run = λ read tells.
-          facts.try_run disk mid new (start empty 2) c.args.steps.now c.run_in_memory-end.new.steps (disk.said old).bytes LIMIT (source.told c.args.source.now) (source.told taking) end status done.same
-          (ran.headline read tells (source.told c.args.source.now) refl empty empty_stands);
-      complete = λ read tells s a.
-          let h = ran.headline read tells (source.told c.args.source.now) refl empty empty_stands in
-          let w = facts.try_without (start empty 2) c.args.steps.now c.run_in_memory-end.new.steps (disk.said old).bytes (disk.said mid).bytes LIMIT (source.told c.args.source.now) (source.told taking) end h in
+          let h = ran.headline tells empty empty_stands in
+          facts.try_run disk mid new (start empty 2) c.args.steps.now c.run_in_memory-end.new.steps (disk.said old).bytes LIMIT (source.told c.args.source.now) (source.told taking) end status done.same h.0
+          (h.1 read (source.told c.args.source.now) refl);
+      sound = λ tells. let h = ran.headline tells empty empty_stands in facts.never_six end status (done.same h.0).0 h.0;
+      complete = λ tells s a.
+          let w = (ran.headline tells empty empty_stands).0 in
           facts.completes end status (done.same w).0 w ran.no_disk (λ e. a (subst Spoken (sym (done.same w).1) (ran.answer_rose e))) (λ e. s (ran.source_rose e));
       disk = record {
         told = done.disk.told ∙ ran.disk.told;
@@ -34,7 +35,8 @@ returns-clause-outcome g c =
         images = λ i. ((λ l. (ran.disk.images i).0 ((done.disk.images i).0 l)), (λ l. (done.disk.images i).1 ((ran.disk.images i).1 l)));
       };
       no_disk = λ e. ran.no_disk (facts.disk_cause disk mid new end status done.same done.broken e);
-      known = facts.never_two disk mid new end status done.same done.broken;
+      limit = λ read. facts.takes_by disk mid new end status done.same done.broken LIMIT (source.told c.args.source.now) (source.told taking) (ran.length read);
+      known = facts.known disk mid new end status done.same done.broken;
     }
 
 pub returns-clause-rose : goal.returns-clause-rose

@@ -15,7 +15,7 @@ invariant-loop-taken g l = record {
   disk : g.D.Desk.disk_faults l.fn.desk ≤ g.D.Desk.disk_faults l.desk;
   answers : (g.D.Desk.said l.fn.desk).faults ≤ (g.D.Desk.said l.desk).faults;
   within : l.taken ≤ LIMIT;
-  told : g.S.Source.tells → (fed : List ℕ) × Fed l.cutter fed × (g.S.Source.told l.fn.source ≡ fed ++ g.S.Source.told l.source) × (length fed ≡ l.taken)
+  fed : (fed : List ℕ) × Fed l.cutter fed × (g.S.Source.tells → g.S.Source.told l.fn.source ≡ fed ++ g.S.Source.told l.source) × (length fed ≡ l.taken)
       × (g.D.Desk.tells → (from : State) → g.D.Desk.is_at l.fn.desk from
       → Ran g.D.Desk.moment g.D.Desk.may_have_left_since g.D.Desk.may_leave g.D.Desk.said g.D.Desk.is_at g.D.Desk.emptied l.fn.steps l.steps l.fn.desk l.desk from (cut fed).pieces (Ok l.refused));
 }

@@ -1,4 +1,4 @@
-use Rattle.std.proofs.Common.{◌≡◌, ◌≤◌, [], Err, IfSome, inr, sym, ◌∙◌, ap, subst, arith}
+use Rattle.std.proofs.Common.{◌≡◌, ℕ, ◌≤◌, [], Err, IfSome, inr, sym, ◌∙◌, ap, subst, arith}
 use Rattle.gx_words.specs.Image.{Image}
 use Rattle.gx_words.specs.PageMap.{PageMap}
 use Rattle.gx_log.specs.Records.{HasMap, count_in}
@@ -13,6 +13,9 @@ use Rattle.gx_run.proofs.PageFacts.{same_map}
 use Rattle.gx_database.specs.Standing.{StandsFor}
 use Rattle.gx_model.specs.Runs.{State, start}
 use Rattle.gx_pages.specs.declared.error.PageError.{PageError}
+use Rattle.gx_pages.specs.declared.error.PageError.TheVariants.{Broken}
+use Rattle.gx_run.specs.Statuses.{IsWithout}
+use Rattle.gx_run.specs.declared.halt.Halt.TheVariants.{Stopped}
 use Rattle.gx_run.specs.Top.{Headline, ScriptHeadline}
 use Rattle.gx_run.specs.declared.stop.Stop.{Stop}
 use Rattle.gx_run.specs.declared.file.FileDesk.{FileDesk}
@@ -23,32 +26,43 @@ use Rattle.gx_run.proofs.TopFacts as facts
 use Rattle.gx_run.proofs.top.run_on_file.Goals as goal
 
 pub returns-in-Err-clause-headline : goal.returns-in-Err-clause-headline
-returns-in-Err-clause-headline g c = λ read tells script is db map has stands.
+returns-in-Err-clause-headline g c = λ tells db map has stands.
     let disk = g.H.Disk in
     let d = g.met.H.Disk in
     let from : State = start db (count_in (map 0)) in
-    let P : Stop → Type 0 = λ stop. Headline disk c.args.steps.now c.args.steps.now c.args.host.now c.read_file.new.disk from (statements script) (Err stop) in
-    subst P (sym c.stop_of.ensures)
-    (opens.not_opened disk tells d.only_now d.counts_now c.args.steps.now c.args.host.now c.read_file.new.disk from LIMIT script [] c.in-Err.error _ _ c.read_file.ensures.opening c.in-Err.ensures.cause
-    (λ page expected found e. c.read_file.ensures.stands tells map has (opens.is_header map db stands) page expected found (c.in-Err.is ∙ ap (λ (x : PageError). Err x) e)))
+    let sound : (page expected found : ℕ) → c.in-Err.error ≡ Broken page expected found → ⊥ = λ page expected found e. c.read_file.ensures.stands tells map has (opens.is_header map db stands) page expected found (c.in-Err.is ∙ ap (λ (x : PageError). Err x) e) in
+    let W : Stop → Type 0 = λ stop. IsWithout (Err (Stopped stop)) in (
+      subst W (sym c.stop_of.ensures) (opens.without c.in-Err.error sound),
+      λ read script is.
+          let P : Stop → Type 0 = λ stop. Headline disk c.args.steps.now c.args.steps.now c.args.host.now c.read_file.new.disk from (statements script) (Err stop) in (
+            subst P (sym c.stop_of.ensures)
+                (opens.not_opened disk tells d.only_now d.counts_now c.args.steps.now c.args.host.now c.read_file.new.disk from script c.in-Err.error _ _ c.read_file.ensures.opening c.in-Err.ensures.cause sound),
+            opens.untaken script (g.S.Source.told c.args.source.now) LIMIT is,
+          ),
+    )
 
 pub returns-in-Err-open-clause-headline : goal.returns-in-Err-open-clause-headline
-returns-in-Err-open-clause-headline g c = λ read tells script is db map has stands.
-    let disk = g.H.Disk in
-    let d = g.met.H.Disk in
-    let from : State = start db (count_in (map 0)) in
-    let same : c.in-Err-open.pager ≡ c.over-pager.result = c.in-Err-open.ensures.back.0 in
-    let name = sym (c.close-host.ensures.name ∙ ap (λ (p : Pager g.row.H.Denot g.H.Disk). p.host.ghost_name) same ∙ c.over-pager.ensures.name) in
-    let at_end = c.close-host.ensures.host ∙ ap (λ (p : Pager g.row.H.Denot g.H.Disk). p.host.now) same ∙ c.over-pager.ensures.host in
-    let P : g.row.H.Denot → Type 0 = λ h. Headline disk c.args.steps.now c.args.steps.now c.args.host.now h from (statements script) (Err Memory) in
-    subst P (sym (c.host-1.given.1 name ∙ at_end))
-    (facts.not_begun disk tells (λ (h : g.row.H.Denot). h) (λ h f. Unit {0}) d.counts_now d.only_now c.args.host.now c.read_file.new.disk from (statements script) c.read_file.ensures.opening Memory (λ n. inr n) (λ n c. omega arith))
+returns-in-Err-open-clause-headline g c = λ tells db map has stands. (
+  tt,
+  λ read script is.
+      let disk = g.H.Disk in
+      let d = g.met.H.Disk in
+      let from : State = start db (count_in (map 0)) in
+      let same : c.in-Err-open.pager ≡ c.over-pager.result = c.in-Err-open.ensures.back.0 in
+      let name = sym (c.close-host.ensures.name ∙ ap (λ (p : Pager g.row.H.Denot g.H.Disk). p.host.ghost_name) same ∙ c.over-pager.ensures.name) in
+      let at_end = c.close-host.ensures.host ∙ ap (λ (p : Pager g.row.H.Denot g.H.Disk). p.host.now) same ∙ c.over-pager.ensures.host in
+      let P : g.row.H.Denot → Type 0 = λ h. Headline disk c.args.steps.now c.args.steps.now c.args.host.now h from (statements script) (Err Memory) in (
+        subst P (sym (c.host-1.given.1 name ∙ at_end))
+            (facts.not_begun disk tells (λ (h : g.row.H.Denot). h) (λ h f. Unit {0}) d.counts_now d.only_now c.args.host.now c.read_file.new.disk from (statements script) c.read_file.ensures.opening Memory (λ n. inr n) (λ n c. omega arith)),
+        opens.untaken script (g.S.Source.told c.args.source.now) LIMIT is,
+      ),
+)
 
 pub returns-clause-opening : goal.returns-clause-opening
 returns-clause-opening g c = λ tells page expected found broken. absurd (c.in-Ok.ensures.sound tells page expected found broken)
 
 pub returns-clause-headline : goal.returns-clause-headline
-returns-clause-headline g c = λ read tells script is db map has stands.
+returns-clause-headline g c = λ tells db map has stands.
     let disk = g.H.Disk in
     let d = g.met.H.Disk in
     let begin = c.args.host.now in
@@ -75,7 +89,7 @@ returns-clause-headline g c = λ read tells script is db map has stands.
     let Now : Pager g.row.H.Denot g.H.Disk → Type 0 = λ p. p.layers.count ≤ count_in (map 0) in
     let Then : Pager g.row.H.Denot g.H.Disk → Type 0 = λ p. p.layers.committed_count ≤ count_in (map 0) in
     let now : pager.layers.count ≡ pager.layers.committed_count = c.over-pager.ensures.count in
-    let ran = c.run_script-result.ensures.headline read tells script is from (
+    let ran = c.run_script-result.ensures.headline tells from (
       record {
         block = c.in-Ok-open.ensures.over.1;
         committed = subst Made (sym over) stands';
@@ -83,13 +97,16 @@ returns-clause-headline g c = λ read tells script is db map has stands.
         left = λ p l. subst (λ (q : PageMap). StandsFor q db) (sym (same_map l.1.0 p committed l.1.2 (left l.1.0 l.1.1))) stands';
       },
       record { now = subst Now (sym over) (omega (arith, count, now)); committed = subst Then (sym over) (omega (arith, count)) },
-    ) in
-    let done = facts.script_headline disk tells (λ (k : FileDesk (Pager g.row.H.Denot g.H.Disk)). k.engine.store.host.now) _ d.counts_now d.only_now
-    c.args.steps.now c.run_script-result.new.steps begin (record { engine = engine }) c.run_script-result.new.desk from committed
-    (subst Open (sym opened) c.read_file.ensures.opening) left stands' c.run_script-result.ensures.follows.1 LIMIT script (g.S.Source.told c.run_script-result.new.source) c.run_script-result.result ran in
-    let store = c.into_store-store.ensures in
-    let name = sym (c.close-host-2.ensures.name ∙ ap (λ (p : Pager g.row.H.Denot g.H.Disk). p.host.ghost_name) store
-    ∙ c.run_script-result.ensures.follows.0 ∙ ap (λ (p : Pager g.row.H.Denot g.H.Disk). p.host.ghost_name) over ∙ c.over-pager.ensures.name) in
-    let at_end = c.close-host-2.ensures.host ∙ ap (λ (p : Pager g.row.H.Denot g.H.Disk). p.host.now) store in
-    let End : g.row.H.Denot → Type 0 = λ h. ScriptHeadline disk c.args.steps.now c.run_script-result.new.steps begin h from LIMIT script (g.S.Source.told c.run_script-result.new.source) c.run_script-result.result in
-    subst End (sym (c.host-2-1.given.1 name ∙ at_end)) done
+    ) in (
+      ran.0,
+      λ read script is.
+          let done = facts.script_headline disk tells (λ (k : FileDesk (Pager g.row.H.Denot g.H.Disk)). k.engine.store.host.now) _ d.counts_now d.only_now
+          c.args.steps.now c.run_script-result.new.steps begin (record { engine = engine }) c.run_script-result.new.desk from committed
+          (subst Open (sym opened) c.read_file.ensures.opening) left stands' c.run_script-result.ensures.follows.1 LIMIT script (g.S.Source.told c.run_script-result.new.source) c.run_script-result.result (ran.1 read script is) in
+          let store = c.into_store-store.ensures in
+          let name = sym (c.close-host-2.ensures.name ∙ ap (λ (p : Pager g.row.H.Denot g.H.Disk). p.host.ghost_name) store
+          ∙ c.run_script-result.ensures.follows.0 ∙ ap (λ (p : Pager g.row.H.Denot g.H.Disk). p.host.ghost_name) over ∙ c.over-pager.ensures.name) in
+          let at_end = c.close-host-2.ensures.host ∙ ap (λ (p : Pager g.row.H.Denot g.H.Disk). p.host.now) store in
+          let End : g.row.H.Denot → Type 0 = λ h. ScriptHeadline disk c.args.steps.now c.run_script-result.new.steps begin h from LIMIT script (g.S.Source.told c.run_script-result.new.source) c.run_script-result.result in
+          subst End (sym (c.host-2-1.given.1 name ∙ at_end)) done,
+    )

@@ -85,3 +85,16 @@ returns-in-Refuse-clause-still g c = λ still. let Still : Task → Type 0 = λ 
 
 pub returns-in-Refuse-clause-goes : goal.returns-in-Refuse-clause-goes
 returns-in-Refuse-clause-goes g c = moving.goes_beside g.P.Pages c.args.store.now c.break_off.new.store c.break_off.ensures.beside
+
+pub returns-in-Open-clause-settled : goal.returns-in-Open-clause-settled
+returns-in-Open-clause-settled g c = λ tells session is before idle. absurd (results.begun_not_idle _ (c.open_block.ensures.moved tells session is).is_in.block idle)
+
+pub returns-in-Commit-clause-settled : goal.returns-in-Commit-clause-settled
+returns-in-Commit-clause-settled g c = results.on_ok_then c.commit.result _ _
+    (λ settled tells session is before idle. settled tells session (moving.keeps_of g.P.Pages c.args.store.now c.args.kind.now session is)) c.commit.ensures.settled
+
+pub returns-in-RollBack-clause-settled : goal.returns-in-RollBack-clause-settled
+returns-in-RollBack-clause-settled g c = λ tells session is before idle. c.roll_back.ensures.settled tells
+
+pub returns-in-Refuse-clause-settled : goal.returns-in-Refuse-clause-settled
+returns-in-Refuse-clause-settled g c = λ tells session is before idle. c.break_off.ensures.settled tells

@@ -62,3 +62,11 @@ returns-in_default-clause-checkpoint g c = results.if_ok_then c.answer_task.resu
 
 pub returns-in_default-clause-least : goal.returns-in_default-clause-least
 returns-in_default-clause-least g c = λ sound. let heap = c.answer_task.ensures.heap in omega (arith, heap)
+
+pub returns-in-Work-clause-settled : goal.returns-in-Work-clause-settled
+returns-in-Work-clause-settled g c = results.on_ok_then c.work.result _ _ (λ settled tells session is before idle. settled tells session is idle) c.work.ensures.settled
+
+pub returns-in_default-clause-vacuumed : goal.returns-in_default-clause-vacuumed
+returns-in_default-clause-vacuumed g c = results.if_ok_then c.answer_task.result _ _
+    (λ reply same none tells session table is is_vacuum. absurd (turning.vacuum_refused c.args.kind.now (said_of c.args.statement.now) table c.task_of-task.result is_vacuum c.task_of-task.ensures c.in_default.not-Work
+    (ap (λ (r : Reply). r.fault) (sym same) ∙ none))) c.answer_task.ensures.reply

@@ -3,6 +3,7 @@ use Rattle.std.proofs.lemmas.Bool.{false≢true}
 use Rattle.std.proofs.lemmas.Result.{err_from_is_err_and}
 use Rattle.gx_pages.proofs.Footprints.{cause_weaker}
 use Rattle.gx_pages.specs.declared.error.PageError.TheVariants.{Memory}
+use Rattle.gx_engine.proofs.Gaps.{no_gap}
 use Rattle.gx_session.proofs.Moving as moving
 use Rattle.gx_session.proofs.Results as results
 use Rattle.gx_session.proofs.units.commit.Goals as goal
@@ -10,20 +11,20 @@ use Rattle.gx_session.proofs.units.commit.Goals as goal
 pub returns-in_err-reserve-clause-disk : goal.returns-in_err-reserve-clause-disk
 returns-in_err-reserve-clause-disk g c = λ err tells session db keeps stands.
     let r = c.in_err-reserve.ensures in
-    let gap = moving.no_gap (g.P.Pages.committed c.args.store.now) session.committed keeps.committed in
-    moving.unmoved g.P.Pages c.args.store.now c.reserve.new.self db (record { left = r.images gap; time = r.time gap })
+    let gap = no_gap (g.P.Pages.committed c.args.store.now) session.committed keeps.committed in
+    moving.unmoved g.P.Pages c.args.store.now c.reserve.new.self db (record { committed = λ told. r.committed.0 (told, gap); left = r.images gap; time = r.time gap })
 
 pub returns-in_err-reserve-clause-memory : goal.returns-in_err-reserve-clause-memory
 returns-in_err-reserve-clause-memory g c = λ err tells session keeps.
     let r = c.in_err-reserve.ensures in
-    let gap = moving.no_gap (g.P.Pages.committed c.args.store.now) session.committed keeps.committed in
-    record { left = r.images gap; time = r.time gap }
+    let gap = no_gap (g.P.Pages.committed c.args.store.now) session.committed keeps.committed in
+    record { committed = λ told. r.committed.0 (told, gap); left = r.images gap; time = r.time gap }
 
 pub returns-in_err-commit-clause-disk : goal.returns-in_err-commit-clause-disk
 returns-in_err-commit-clause-disk g c = λ err tells session db keeps stands.
     let r = c.in_ok-reserve.ensures in
-    let gap = moving.no_gap (g.P.Pages.committed c.args.store.now) session.committed keeps.committed in
-    let time = moving.commit_time g.P.Pages c.args.store.now c.reserve.new.self c.commit.new.self db r.same.said (record { left = r.images gap; time = r.time gap }) (r.map tells gap) stands
+    let gap = no_gap (g.P.Pages.committed c.args.store.now) session.committed keeps.committed in
+    let time = moving.commit_time g.P.Pages c.args.store.now c.reserve.new.self c.commit.new.self db r.same.said (record { committed = λ told. r.committed.0 (told, gap); left = r.images gap; time = r.time gap }) (r.map tells gap) stands
     c.in_err-commit.ensures.time in
     moving.may_have_moved g.P.Pages c.args.store.now c.commit.new.self db
     (moving.left_by_time g.P.Pages g.met.P.Pages.counts_now g.met.P.Pages.only_now c.args.store.now c.commit.new.self db time) time
@@ -50,11 +51,21 @@ pub returns-clause-moved : goal.returns-clause-moved
 returns-clause-moved g c = λ tells session db keeps stands.
     let r = c.in_ok-reserve.ensures in
     let k = c.in_ok-commit.ensures in
-    let gap = moving.no_gap (g.P.Pages.committed c.args.store.now) session.committed keeps.committed in
+    let gap = no_gap (g.P.Pages.committed c.args.store.now) session.committed keeps.committed in
     moving.committed_by g.P.Pages c.args.store.now c.reserve.new.self c.commit.new.self db (r.map tells gap) r.count stands
     (k.committed.0 tells) k.committed.1 (k.map tells) k.count (k.only tells)
-    (moving.commit_time g.P.Pages c.args.store.now c.reserve.new.self c.commit.new.self db r.same.said (record { left = r.images gap; time = r.time gap }) (r.map tells gap) stands k.time)
+    (moving.commit_time g.P.Pages c.args.store.now c.reserve.new.self c.commit.new.self db r.same.said (record { committed = λ told. r.committed.0 (told, gap); left = r.images gap; time = r.time gap }) (r.map tells gap) stands k.time)
 
 pub returns-clause-beside : goal.returns-clause-beside
 returns-clause-beside g c =
     moving.beside_then g.P.Pages g.met.P.Pages.follows_on c.args.store.now c.reserve.new.self c.commit.new.self c.in_ok-reserve.ensures.same c.in_ok-commit.ensures.same
+
+pub returns-clause-settled : goal.returns-clause-settled
+returns-clause-settled g c = λ tells session keeps.
+    let k = c.in_ok-commit.ensures in
+    moving.settled_commit g.P.Pages c.reserve.new.self c.commit.new.self (k.committed.0 tells) k.committed.1 (k.map tells) k.count
+
+pub returns-clause-map : goal.returns-clause-map
+returns-clause-map g c = λ tells session keeps.
+    let gap = no_gap (g.P.Pages.committed c.args.store.now) session.committed keeps.committed in
+    c.in_ok-commit.ensures.map tells ∙ c.in_ok-reserve.ensures.map tells gap

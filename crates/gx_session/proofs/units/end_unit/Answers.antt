@@ -23,3 +23,9 @@ returns-in_default-clause-moved g c = λ tells session db keeps stands.
 
 pub returns-in_default-clause-beside : goal.returns-in_default-clause-beside
 returns-in_default-clause-beside g c = moving.beside_still g.P.Pages c.args.store.now (g.met.P.Pages.follows_itself c.args.store.now)
+
+pub returns-in-Idle-clause-settled : goal.returns-in-Idle-clause-settled
+returns-in-Idle-clause-settled g c = results.on_ok_then c.commit.result _ _ (λ settled tells session keeps idle. settled tells session keeps) c.commit.ensures.settled
+
+pub returns-in_default-clause-settled : goal.returns-in_default-clause-settled
+returns-in_default-clause-settled g c = λ tells session keeps idle. absurd (c.in_default.not-Idle idle)

@@ -8,4 +8,9 @@ pub returns-clause-moved : goal.returns-clause-moved
 returns-clause-moved g c = λ tells session keeps.
     let a = c.abandon.ensures in
     moving.given_up g.P.Pages c.args.store.now c.abandon.new.self c.args.kind.now Idle session (session_over session.committed) keeps refl refl refl
-    (a.map tells) a.count (a.committed.0 tells) a.committed.1 (record { left = a.images; time = a.time })
+    (a.map tells) a.count (a.committed.0 tells) a.committed.1 (record { committed = a.committed.0; left = a.images; time = a.time })
+
+pub returns-clause-settled : goal.returns-clause-settled
+returns-clause-settled g c = λ tells.
+    let a = c.abandon.ensures in
+    moving.settled_by g.P.Pages c.args.store.now c.abandon.new.self (a.map tells) a.count (a.committed.0 tells) a.committed.1

@@ -1,4 +1,4 @@
-use Rattle.std.proofs.Common.{ℕ, Option, sym, subst}
+use Rattle.std.proofs.Common.{ℕ, Option, sym, ◌∙◌, subst}
 use Rattle.gx_pages.specs.declared.error.PageError.TheVariants.{DiskFault, Memory}
 use Rattle.gx_session.specs.Moves.{Moved, MayHaveMoved, behind}
 use Rattle.gx_session.proofs.Moving as moving
@@ -22,3 +22,9 @@ returns-in-Ok-clause-moved g c = λ tells session db keeps stands.
 
 pub returns-in-Err-clause-memory : goal.returns-in-Err-clause-memory
 returns-in-Err-clause-memory g c = λ err tells session keeps. c.in-Err.ensures.memory (results.err_as _ _ c.in-Err.error Memory err) tells session keeps
+
+pub returns-in-Some-clause-settled : goal.returns-in-Some-clause-settled
+returns-in-Some-clause-settled g c = λ tells session keeps idle. c.break_off.ensures.settled tells
+
+pub returns-in-Some-clause-map : goal.returns-in-Some-clause-map
+returns-in-Some-clause-map g c = λ none. absurd (results.never _ (sym c.in-Some.is ∙ none))

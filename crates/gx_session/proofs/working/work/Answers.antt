@@ -169,3 +169,32 @@ returns-in-None-clause-goes g c =
     (moving.goes_beside g.P.Pages c.args.store.now c.begin_unit.new.store c.begin_unit.ensures.beside)
     (moving.goes_quiet g.P.Pages c.begin_unit.new.store c.try_step.new.pages c.in_ok-done.ensures.quiet))
     (moving.goes_beside g.P.Pages c.try_step.new.pages c.break_off.new.store c.break_off.ensures.beside)
+
+-- What is settled and vacuumed.
+
+pub returns-in-Some-clause-settled : goal.returns-in-Some-clause-settled
+returns-in-Some-clause-settled g c = results.on_ok_then c.settle.result _ _
+    (λ settled tells session is idle.
+    let here = c.begin_unit.ensures.is_in tells session is in
+    let quiet = c.in_ok-done.ensures.quiet in
+    settled tells session
+    (moving.keeps_on g.P.Pages c.begin_unit.new.store c.try_step.new.pages c.args.kind.now session (moving.keeps_of g.P.Pages c.begin_unit.new.store c.args.kind.now session here) quiet.committed quiet.images) idle)
+    c.settle.ensures.settled
+
+pub returns-in-None-clause-settled : goal.returns-in-None-clause-settled
+returns-in-None-clause-settled g c = results.on_ok_if c.refused.result _ (λ tells session is idle. c.break_off.ensures.settled tells)
+
+pub returns-in-Some-clause-vacuumed : goal.returns-in-Some-clause-vacuumed
+returns-in-Some-clause-vacuumed g c = results.if_ok_both c.settle.result _ _ _
+    (λ reply same map none tells session table is is_vacuum.
+    let here = c.begin_unit.ensures.is_in tells session is in
+    let quiet = c.in_ok-done.ensures.quiet in
+    let done = (works.of_some c.in_ok-done.done c.in-Some.reply _ c.in-Some.is c.in_ok-done.ensures.done) tells (seen session) here.map in
+    let keeps = moving.keeps_on g.P.Pages c.begin_unit.new.store c.try_step.new.pages c.args.kind.now session (moving.keeps_of g.P.Pages c.begin_unit.new.store c.args.kind.now session here) quiet.committed quiet.images in
+    works.vacuumed_so g.P.Pages c.begin_unit.new.store c.try_step.new.pages c.settle.new.store c.args.kind.now session (said_of c.args.statement.now) is.block c.requires.work
+    (reply_of c.in-Some.reply) (reply_of reply) table done (ap reply_of same) none is_vacuum (map (ap (λ (r : Answered). r.fault) (sym same) ∙ none) tells session keeps))
+    c.settle.ensures.reply c.settle.ensures.map
+
+pub returns-in-None-clause-vacuumed : goal.returns-in-None-clause-vacuumed
+returns-in-None-clause-vacuumed g c = results.if_ok_then c.refused.result _ _
+    (λ reply is_20 none. absurd (results.never 20 (ap (λ (r : Reply). r.fault) (sym is_20) ∙ none))) c.refused.ensures.reply

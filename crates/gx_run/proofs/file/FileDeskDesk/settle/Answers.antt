@@ -5,7 +5,7 @@ use Rattle.gx_engine.specs.Engines.{IsIn, HasAtMost}
 use Rattle.gx_engine.specs.Times.{Between}
 use Rattle.gx_run.specs.Moves.{OneOf}
 use Rattle.gx_run.proofs.DeskFacts as facts
-use Rattle.gx_run.proofs.OpenFacts.{no_gap}
+use Rattle.gx_engine.proofs.Gaps.{no_gap}
 use Rattle.gx_run.proofs.file.FileDeskDesk.settle.Goals as goal
 
 pub returns-clause-at : goal.returns-clause-at

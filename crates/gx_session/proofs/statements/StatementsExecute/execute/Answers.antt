@@ -5,6 +5,7 @@ use Rattle.gx_engine.specs.Engines.{IsIn, reply_of}
 use Rattle.gx_session.specs.Readings.{IsReading, IsSoundReading}
 use Rattle.gx_session.specs.declared.reading.Reading.{Reading}
 use Rattle.gx_session.proofs.Moving as moving
+use Rattle.gx_session.proofs.Pieces as pieces
 use Rattle.gx_session.proofs.Results as results
 use Rattle.gx_session.proofs.Turning as turning
 use Rattle.gx_session.proofs.statements.StatementsExecute.execute.Goals as goal
@@ -86,3 +87,19 @@ returns-in-Refused-clause-faults g c = c.break_off.ensures.beside.faults
 
 pub returns-in-Refused-clause-least : goal.returns-in-Refused-clause-least
 returns-in-Refused-clause-least g c = λ sound. let heap = c.break_off.ensures.beside.heap in omega (arith, heap)
+
+-- What is settled and vacuumed.
+
+pub returns-in-Says-clause-vacuumed : goal.returns-in-Says-clause-vacuumed
+returns-in-Says-clause-vacuumed g c = results.if_ok_then c.execute_statement.result _ _
+    (λ reply h none tells session text table is e vacuum.
+    let Read : Reading → Type 0 = λ r. IsReading (reading_of text) r in
+    h none tells session table is (pieces.says_so (reading_of text) _ _ (subst Read c.in-Says.is (c.in_ok-reading.ensures.read text e)) vacuum)) c.execute_statement.ensures.vacuumed
+
+pub returns-in-Refused-clause-settled : goal.returns-in-Refused-clause-settled
+returns-in-Refused-clause-settled g c = λ tells session is before idle. c.break_off.ensures.settled tells
+
+pub returns-in-Refused-clause-vacuumed : goal.returns-in-Refused-clause-vacuumed
+returns-in-Refused-clause-vacuumed g c = λ none tells session text table is e vacuum.
+    let Read : Reading → Type 0 = λ r. IsReading (reading_of text) r in
+    absurd (pieces.not_refused (reading_of text) _ _ (subst Read c.in-Refused.is (c.in_ok-reading.ensures.read text e)) vacuum)
