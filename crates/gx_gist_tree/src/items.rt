@@ -1,12 +1,14 @@
 //! The items of a tree's pages. One of level 0 is a row's number in eight bytes, its page in eight, its slot in two, and the
 //! row's key; one of another level is the number of the page below it in eight bytes, and a key.
 
-ghost use Rattle.std.specs.Prelude.{◌≡◌, ◌<◌, ◌^◌, ◌+◌, ℕ, take, drop, length, IfSome, IfNone};
+ghost use Rattle.std.specs.Prelude.{◌≡◌, ◌<◌, ◌^◌, ◌+◌, ◌++◌, ℕ, take, drop, length, IfOk, IfErr, IfSome, IfNone};
 ghost use Rattle.gx_bytes.specs.Fields.{le16, le64};
-ghost use Rattle.gx_gist_tree.specs.OnPages.{FitsFields};
+ghost use Rattle.gx_gist_tree.specs.OnPages.{FitsFields, inner_item, leaf_item};
 
-use gx_bytes::{get_u16, get_u64};
-use gx_pages::RowRef;
+use gx_bytes::{Bytes, get_u16, get_u64, put_u16, put_u64};
+use gx_gist::GistClass;
+use gx_pages::{PageError, RowRef};
+use std::alloc::Global;
 
 /// The kind of a tree's page.
 pub const GIST: u8 = 4;
@@ -37,4 +39,78 @@ pub fn inner_parts(item: &[u8]) -> Option<(u64, &[u8])>
     let page = get_u64(item, 0)?;
     let (_, key) = item.split_at_checked(8)?;
     Some((page, key))
+}
+
+/// The bytes of an item of level 0.
+pub fn leaf_bytes<C: GistClass>(
+    alloc: Global,
+    class: &C,
+    row: RowRef,
+    key: &C::Key,
+) -> Result<Bytes, PageError>
+    requires class { C.valid class.now }
+    requires key { C.valid_key class.now key.now }
+    ensures ok { IfOk result (λ item. item ≡ leaf_item (C.spelling class.now) (row, key.now)) }
+    ensures err { IfErr result (λ error. error ≡ PageError.Memory) }
+{
+    let head = row_bytes(row);
+    with_key(alloc, class, &head, key)
+}
+
+/// The bytes of an item of another level.
+pub fn inner_bytes<C: GistClass>(
+    alloc: Global,
+    class: &C,
+    child: u64,
+    key: &C::Key,
+) -> Result<Bytes, PageError>
+    requires class { C.valid class.now }
+    requires key { C.valid_key class.now key.now }
+    ensures ok { IfOk result (λ item. item ≡ inner_item (C.spelling class.now) child key.now) }
+    ensures err { IfErr result (λ error. error ≡ PageError.Memory) }
+{
+    let head = page_bytes(child);
+    with_key(alloc, class, &head, key)
+}
+
+fn row_bytes(row: RowRef) -> [u8; 18]
+    ensures { result ≡ le64 row.number ++ le64 row.page ++ le16 row.slot }
+{
+    let mut head = [0; 18];
+    put_u64(&mut head, 0, row.number);
+    put_u64(&mut head, 8, row.page);
+    put_u16(&mut head, 16, row.slot);
+    head
+}
+
+fn page_bytes(page: u64) -> [u8; 8]
+    ensures { result ≡ le64 page }
+{
+    let mut head = [0; 8];
+    put_u64(&mut head, 0, page);
+    head
+}
+
+/// A key's bytes behind others.
+fn with_key<C: GistClass>(
+    alloc: Global,
+    class: &C,
+    head: &[u8],
+    key: &C::Key,
+) -> Result<Bytes, PageError>
+    requires class { C.valid class.now }
+    requires key { C.valid_key class.now key.now }
+    ensures ok { IfOk result (λ item. item ≡ head.now ++ C.spelling class.now key.now) }
+    ensures err { IfErr result (λ error. error ≡ PageError.Memory) }
+{
+    let Ok(spelled) = class.write(alloc, key) else {
+        return Err(PageError::Memory);
+    };
+    let Ok(mut item) = Bytes::from_slice(alloc, head) else {
+        return Err(PageError::Memory);
+    };
+    let Ok(()) = item.extend_from_slice(spelled.as_slice()) else {
+        return Err(PageError::Memory);
+    };
+    Ok(item)
 }

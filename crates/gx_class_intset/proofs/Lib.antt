@@ -1,0 +1,2 @@
+mod JoinFacts
+pub mod ReadFacts

@@ -1,0 +1,16 @@
+//! The GiST operator class of int4[] by intervals.
+#![tactic(auto)]
+
+mod class;
+mod interval;
+mod join;
+mod keys;
+mod order;
+mod points;
+mod put;
+mod read;
+mod spell;
+mod tests_of_keys;
+
+pub use class::IntClass;
+pub use interval::{IntKey, Interval, Intervals};

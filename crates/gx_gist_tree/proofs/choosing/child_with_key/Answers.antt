@@ -1,0 +1,39 @@
+use Rattle.std.proofs.Common.{◌≡◌, inr, List, ℕ, ◌≤◌, length, take, drop, refl, sym, ◌∙◌, ap, subst, arith, Some}
+use Rattle.gx_gist_tree.specs.OnPages.{inner_item}
+use Rattle.gx_gist_tree.proofs.ItemFacts.{inner_long, inner_key, one_child}
+use Rattle.gx_gist_tree.proofs.KeyFacts.{read_key}
+use Rattle.gx_gist_tree.proofs.choosing.child_with_key.Goals as goal
+
+pub returns-in_default-inner_parts-clause-cause : goal.returns-in_default-inner_parts-clause-cause
+returns-in_default-inner_parts-clause-cause g c = inr (
+  c.no_item-in_default-inner_parts.ensures,
+  λ child key valid is.
+      let bytes = g.C.GistClass.spelling c.args.class.now in
+      let there : c.in-Some.item.now ≡ inner_item bytes child key = (let at = c.in-Some.ensures in cc) in
+      let short = c.in_default-inner_parts.ensures.none in
+      omega (arith, short, inner_long bytes child key, ap (λ (l : List ℕ). length l) there),
+)
+
+pub returns-in_default-found-clause-cause : goal.returns-in_default-found-clause-cause
+returns-in_default-found-clause-cause g c = inr (
+  c.no_item-in_default-found.ensures,
+  λ child key valid is.
+      let class = c.args.class.now in
+      let bytes = g.C.GistClass.spelling c.args.class.now in
+      let there : c.in-Some.item.now ≡ inner_item bytes child key = (let at = c.in-Some.ensures in cc) in
+      c.in_default-found.not-Some key
+      (read_key (g.C.GistClass.valid_key class) bytes (λ a b va vb. g.met.C.GistClass.one_spelling class a b c.requires.class va vb) c.in-Some-inner_parts.bytes.now c.in-Ok.found c.in-Ok.ensures key valid
+      (c.in-Some-inner_parts.ensures.key ∙ ap (λ (l : List ℕ). drop 8 l) there ∙ inner_key bytes child key)),
+)
+
+pub returns-clause-some : goal.returns-clause-some
+returns-clause-some g c = λ child key valid small is.
+    let class = c.args.class.now in
+    let bytes = g.C.GistClass.spelling class in
+    let there : c.in-Some.item.now ≡ inner_item bytes child key = (let at = c.in-Some.ensures in cc) in
+    let read : c.in-Ok.found ≡ Some key =
+    read_key (g.C.GistClass.valid_key class) bytes (λ a b va vb. g.met.C.GistClass.one_spelling class a b c.requires.class va vb) c.in-Some-inner_parts.bytes.now c.in-Ok.found c.in-Ok.ensures key valid
+    (c.in-Some-inner_parts.ensures.key ∙ ap (λ (l : List ℕ). drop 8 l) there ∙ inner_key bytes child key) in (
+      one_child bytes c.in-Some.item.now c.in-Some-inner_parts.child child key c.in-Some-inner_parts.ensures.fits small there c.in-Some-inner_parts.ensures.page,
+      (let was = c.in-Some-found.is in cc),
+    )
