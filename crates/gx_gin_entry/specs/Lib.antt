@@ -1,1 +1,3 @@
 pub mod EntryTrees
+pub mod Keys
+pub mod Lists

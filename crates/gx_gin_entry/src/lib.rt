@@ -1,6 +1,12 @@
 //! Entry trees: ordered maps of byte strings on pages.
 #![tactic(auto)]
 
+mod keys;
+mod laws;
+mod places;
+mod putting;
+mod removing;
 mod tree;
 
+pub use laws::one_map;
 pub use tree::EntryTree;

@@ -1,14 +1,20 @@
 //! An entry tree.
 
-ghost use Rattle.std.specs.Prelude.{◌≡◌, ℕ, ◌+◌, ◌≤◌, List, [], ◌∷◌, IfOk, IfErr, OnOk};
+ghost use Rattle.std.specs.Prelude.{◌≡◌, ℕ, ◌+◌, ◌≤◌, List, [], ◌∷◌, length, None, IfOk, IfErr, true, false, OnOk};
 ghost use Rattle.gx_pages.specs.Footprints.{KeepsPages, StaysQuiet};
 ghost use Rattle.gx_pages.specs.Frees.{IsFreeList, IsFull};
 ghost use Rattle.gx_pages.specs.Pages.{HasCause};
 ghost use Rattle.gx_chain.specs.Chains.{IsSound, ListsNone};
-ghost use Rattle.gx_gin_entry.specs.EntryTrees.{Entry, HoldsEntries, HoldsNoEntries};
+ghost use Rattle.gx_tree.specs.Finding.{LeafAt};
+ghost use Rattle.gx_gin_entry.specs.EntryTrees.{AreShorter, Entry, HasLonger, HoldsEntries, HoldsMap, HoldsNoEntries, HoldsNoMap, IsFound, IsPut, IsRemoved, by_key, key_bytes};
 
+use crate::keys::Sought;
+use crate::places::{broken, find_in, posting_in};
+use crate::putting::{Putting, replace_in};
+use crate::removing::without;
+use gx_bytes::Bytes;
 use gx_pages::{PageError, Pages};
-use gx_tree::{create_tree, drop_tree};
+use gx_tree::{LeafPage, change_tree, create_tree, drop_tree, fetch_top, find_leaf, rewrite_leaf};
 use std::alloc::Global;
 
 /// The kind of the pages of entry trees.
@@ -52,6 +58,87 @@ impl EntryTree {
         self.page
     }
 
+    /// The posting of a key. A page a level is fetched.
+    pub fn get<P: Pages>(
+        &self,
+        alloc: Global,
+        pages: &mut P,
+        key: &[u8],
+    ) -> Result<Option<Bytes>, PageError>
+        ensures found { IfOk result (λ found. P.tells → (list : List Entry) (feet : List ℕ) → HoldsMap (P.map pages.old) (P.count pages.old) self.now.page list feet → IsFound list key.now found) }
+        ensures fetches { P.tells → (list : List Entry) (feet : List ℕ) (held : HoldsMap (P.map pages.old) (P.count pages.old) self.now.page list feet) → P.fetches pages.new ≤ P.fetches pages.old + (held.tree.0 + 1) }
+        ensures cause { IfErr result (HasCause (P.faults pages.old) (P.faults pages.new)
+            (λ at expected found. P.tells → HoldsNoMap (P.map pages.old) (P.count pages.old) self.now.page) (λ _. ⊥) (Unit {0})) }
+        ensures map { P.map pages.new ≡ P.map pages.old }
+        ensures count { P.count pages.new ≡ P.count pages.old }
+        ensures heap { IsSound result → P.heap_fetches pages.new ≡ P.heap_fetches pages.old }
+        ensures quiet { StaysQuiet P.Pages pages.old pages.new }
+    {
+        let leaf = find_page(&Sought { key }, pages, self.page)?;
+        posting_in(alloc, leaf.page, &leaf.slots, key)
+    }
+
+    /// Puts a posting at a key, which it has then. At most 60 pages more are taken, and none where the key is there with a posting
+    /// that is as long at least.
+    pub fn put<P: Pages>(
+        &mut self,
+        alloc: Global,
+        pages: &mut P,
+        key: &[u8],
+        posting: &[u8],
+    ) -> Result<(), PageError>
+        requires key { length key.now ≤ 1901 }
+        requires posting { length posting.now ≤ 513 }
+        ensures put { OnOk result (P.tells → (list : List Entry) (feet free : List ℕ) → HoldsEntries P.Pages pages.old self.old.page list feet free
+            → (later : List Entry) × (stand : List ℕ) × (rest : List ℕ) × HoldsEntries P.Pages pages.new self.old.page later stand rest × KeepsPages P.Pages pages.old pages.new feet free stand rest
+            × IsPut key.now posting.now list later) }
+        ensures same { self.new ≡ self.old }
+        ensures grows { P.count pages.old ≤ P.count pages.new }
+        ensures by { P.count pages.new ≤ P.count pages.old + 60 }
+        ensures stays { P.tells → (list : List Entry) (feet free : List ℕ) → HoldsEntries P.Pages pages.old self.old.page list feet free → HasLonger list key.now posting.now → P.count pages.new ≡ P.count pages.old }
+        ensures cause { IfErr result (HasCause (P.faults pages.old) (P.faults pages.new)
+            (λ at expected found. P.tells → HoldsNoEntries P.Pages pages.old self.old.page)
+            (λ n. IsFull P.tells (P.map pages.new) (P.count pages.new) n
+            × (P.tells → (list : List Entry) (feet free : List ℕ) → HoldsEntries P.Pages pages.old self.old.page list feet free → HasLonger list key.now posting.now → ⊥)) (Unit {0})) }
+        ensures heap { IsSound result → P.heap_fetches pages.new ≡ P.heap_fetches pages.old }
+        ensures quiet { StaysQuiet P.Pages pages.old pages.new }
+    {
+        let Ok(change) = Putting::new(alloc, key, posting) else {
+            return Err(PageError::Memory);
+        };
+        let done = put_in_place(pages, self.page, &change)?;
+        if done {
+            return Ok(());
+        }
+        change_tree(&change, alloc, pages, KIND, self.page)?;
+        Ok(())
+    }
+
+    /// Takes a key out. No page is taken or given.
+    pub fn remove<P: Pages>(&mut self, pages: &mut P, key: &[u8]) -> Result<(), PageError>
+        ensures removed { OnOk result (P.tells → (list : List Entry) (feet free : List ℕ) → HoldsEntries P.Pages pages.old self.old.page list feet free
+            → (later : List Entry) × (stand : List ℕ) × HoldsEntries P.Pages pages.new self.old.page later stand free × KeepsPages P.Pages pages.old pages.new feet free stand free
+            × IsRemoved key.now list later) }
+        ensures same { self.new ≡ self.old }
+        ensures count { P.count pages.new ≡ P.count pages.old }
+        ensures cause { IfErr result (HasCause (P.faults pages.old) (P.faults pages.new)
+            (λ at expected found. P.tells → HoldsNoEntries P.Pages pages.old self.old.page) (λ _. ⊥) (Unit {0})) }
+        ensures heap { IsSound result → P.heap_fetches pages.new ≡ P.heap_fetches pages.old }
+        ensures quiet { StaysQuiet P.Pages pages.old pages.new }
+    {
+        let sought = Sought { key };
+        let leaf = find_page(&sought, pages, self.page)?;
+        let Some(place) = find_in(&leaf.slots, key) else {
+            return Err(broken(leaf.page));
+        };
+        if place.here {
+            let slots = without(leaf.page, KIND, &leaf.slots, place.slot)?;
+            rewrite_leaf(&sought, pages, leaf.page, &slots)?;
+            return Ok(());
+        }
+        Ok(())
+    }
+
     /// Gives every page back. There is no tree then.
     pub fn drop_all<P: Pages>(self, alloc: Global, pages: &mut P) -> Result<(), PageError>
         ensures dropped { OnOk result (P.tells → (list : List Entry) (feet free : List ℕ) → HoldsEntries P.Pages pages.old self.page list feet free
@@ -64,4 +151,47 @@ impl EntryTree {
     {
         drop_tree(alloc, pages, self.page, KIND)
     }
+}
+
+/// The page of level 0 where a key belongs. A page a level is fetched.
+fn find_page<P: Pages>(sought: &Sought, pages: &mut P, root: u64) -> Result<LeafPage, PageError>
+    ensures found { IfOk result (λ leaf. P.tells → (list : List Entry) (feet : List ℕ) (held : HoldsMap (P.map pages.old) (P.count pages.old) root list feet)
+        → LeafAt P.Pages pages.new by_key (key_bytes sought.now.key.now) 5 held.tree.0 None None held.tree.1 leaf.page leaf.slots) }
+    ensures fetches { P.tells → (list : List Entry) (feet : List ℕ) (held : HoldsMap (P.map pages.old) (P.count pages.old) root list feet) → P.fetches pages.new ≤ P.fetches pages.old + (held.tree.0 + 1) }
+    ensures cause { IfErr result (HasCause (P.faults pages.old) (P.faults pages.new)
+        (λ at expected found. P.tells → HoldsNoMap (P.map pages.old) (P.count pages.old) root) (λ _. ⊥) (Unit {0})) }
+    ensures map { P.map pages.new ≡ P.map pages.old }
+    ensures count { P.count pages.new ≡ P.count pages.old }
+    ensures heap { IsSound result → P.heap_fetches pages.new ≡ P.heap_fetches pages.old }
+    ensures quiet { StaysQuiet P.Pages pages.old pages.new }
+{
+    let top = fetch_top(pages, root, KIND)?;
+    let level = top.level();
+    let leaf = find_leaf(sought, pages, KIND, root, level, top)?;
+    Ok(leaf)
+}
+
+/// Puts a posting where the key is there and has room for it. False where it isn't there, or has none.
+fn put_in_place<P: Pages>(pages: &mut P, root: u64, change: &Putting) -> Result<bool, PageError>
+    ensures put { IfOk result (λ done. done ≡ true → P.tells → (list : List Entry) (feet free : List ℕ) → HoldsEntries P.Pages pages.old root list feet free
+        → (later : List Entry) × (stand : List ℕ) × HoldsEntries P.Pages pages.new root later stand free × KeepsPages P.Pages pages.old pages.new feet free stand free
+        × IsPut change.now.key.now change.now.posting.now list later) }
+    ensures shorter { IfOk result (λ done. done ≡ false → P.tells → (list : List Entry) (feet free : List ℕ) → HoldsEntries P.Pages pages.old root list feet free → AreShorter list change.now.key.now change.now.posting.now) }
+    ensures map { IfOk result (λ done. done ≡ false → P.map pages.new ≡ P.map pages.old) }
+    ensures count { P.count pages.new ≡ P.count pages.old }
+    ensures cause { IfErr result (HasCause (P.faults pages.old) (P.faults pages.new)
+        (λ at expected found. P.tells → HoldsNoEntries P.Pages pages.old root) (λ _. ⊥) (Unit {0})) }
+    ensures heap { IsSound result → P.heap_fetches pages.new ≡ P.heap_fetches pages.old }
+    ensures quiet { StaysQuiet P.Pages pages.old pages.new }
+{
+    let sought = Sought { key: change.key };
+    let leaf = find_page(&sought, pages, root)?;
+    let LeafPage { page, slots } = leaf;
+    let mut slots = slots;
+    let done = replace_in(page, &mut slots, change)?;
+    if done {
+        rewrite_leaf(&sought, pages, page, &slots)?;
+        return Ok(true);
+    }
+    Ok(false)
 }

@@ -1,3 +1,4 @@
+pub mod Appended
+pub mod Edits
 pub mod Held
 pub mod Read
-pub mod Spelled

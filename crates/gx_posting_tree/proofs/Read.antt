@@ -11,7 +11,7 @@ use Rattle.gx_slot.specs.Slots.{Slots, Fits, item_at, spelling}
 use Rattle.gx_tree.specs.Trees.{IsOn, LacksPage, Leaf, Node, Tree, entries, entries_of, items_of, leaves_of, numbers, page_of, slots_of}
 use Rattle.gx_tree.proofs.Lists.{At, all_place, at_place, get_at}
 use Rattle.gx_posting_tree.specs.PostingTrees.{AreSpelled}
-use Rattle.gx_posting_tree.proofs.Spelled.{rising_left, spelled_split}
+use Rattle.gx_posting_tree.specs.Spelled.{rising_left, spelled_split}
 
 -- Some rows are read, and what is left spells the others.
 pub record Reads (old now rows : List RowRef) (left : List (List ℕ)) : Type 0 where

@@ -1,14 +1,15 @@
 -- A posting tree: rows by rising numbers, in posting lists on the pages of a tree.
-use Rattle.std.specs.Prelude.{◌≡◌, ◌≢◌, ℕ, zero, suc, ◌^◌, ◌<◌, ◌≤◌, List, [], ◌∷◌, ◌++◌, length}
+use Rattle.std.specs.Prelude.{◌≡◌, ◌≢◌, ℕ, zero, suc, ◌^◌, ◌<◌, ◌≤◌, List, [], ◌∷◌, ◌++◌, length, Option, Some, None}
 use Rattle.std.specs.List.{AllByRecursion}
-use Rattle.gx_bytes.specs.Fields.{le64}
+use Rattle.gx_bytes.specs.Fields.{le64, of64}
 use Rattle.gx_words.specs.PageMap.{PageMap}
 use Rattle.gx_pages.specs.declared.row.RowRef.{RowRef}
 use Rattle.gx_pages.specs.declared.store.Pages.{Ghosts}
 use Rattle.gx_pages.specs.Frees.{IsApart, IsFreeList}
 use Rattle.gx_pages.specs.Rows.{AreBelow, IsRising}
 use Rattle.gx_posting.specs.Postings.{Spells}
-use Rattle.gx_tree.specs.Trees.{Holds, Node, Tree, entries, entries_of, footprint}
+use Rattle.gx_tree.specs.Orders.{IsKeyed, Order}
+use Rattle.gx_tree.specs.Trees.{Holds, Tree, entries, footprint}
 
 -- Each item is a posting list of one row at least, in at most 512 bytes; one behind another they have these rows.
 abbrev pub AreSpelled : List (List ℕ) → List RowRef → Type 0
@@ -16,33 +17,49 @@ AreSpelled [] rows = rows ≡ []
 AreSpelled (item ∷ items) rows =
     (list : List RowRef) × (rest : List RowRef) × (rows ≡ list ++ rest) × (0 < length list) × (length item ≤ 512) × Spells item list × AreSpelled items rest
 
--- all numbers in these lists are below this one
-abbrev pub AreBefore : ℕ → List (List ℕ) → Type 0
-AreBefore number items = AllByRecursion (λ item. (rows : List RowRef) → Spells item rows → AreBelow rows number) items
+-- the number of the row is at least that of a key, and below that of another one, where there are such keys
+abbrev pub IsFromKey : Option (List ℕ) → RowRef → Type 0
+IsFromKey None row = Unit {0}
+IsFromKey (Some key) row = of64 key ≤ row.number
 
--- no number in these lists is below this one
-abbrev pub AreFrom : ℕ → List (List ℕ) → Type 0
-AreFrom number items = AllByRecursion (λ item. (rows : List RowRef) → Spells item rows → AllByRecursion (λ row. number ≤ row.number) rows) items
+abbrev pub IsUnderKey : Option (List ℕ) → RowRef → Type 0
+IsUnderKey None row = Unit {0}
+IsUnderKey (Some key) row = row.number < of64 key
 
--- The item of a page above level 0 has a number in eight bytes: it is above every row number before it, and at most every one below it.
-pub record IsKey (before below : List (List ℕ)) (bytes : List ℕ) : Type 0 where
+-- These lists have rows that rise, from the number of one key on and below that of another.
+pub record HaveRows (least end : Option (List ℕ)) (items : List (List ℕ)) : Type 0 where
+  pub rows : List RowRef
+  pub spelled : AreSpelled items rows
+  pub rising : IsRising rows
+  pub from : AllByRecursion (IsFromKey least) rows
+  pub under : AllByRecursion (IsUnderKey end) rows
+
+-- A key is a number in eight bytes.
+pub record IsNumber (key : List ℕ) : Type 0 where
   pub number : ℕ
   pub fits : number < 2 ^ 64
-  pub is : bytes ≡ le64 number
-  pub above : AreBefore number before
-  pub least : AreFrom number below
+  pub is : key ≡ le64 number
 
--- so do all items of a page, with these lists before it
-abbrev pub AreKeyed : (level : ℕ) → (List (List ℕ) → Node level → Type 0) → List (List ℕ) → List (List ℕ × Node level) → Type 0
-AreKeyed level below before [] = Unit {0}
-AreKeyed level below before (item ∷ items) =
-    IsKey before (entries_of level (item.1 ∷ [])) item.0 × below before item.1 × AreKeyed level below (before ++ entries_of level (item.1 ∷ [])) items
+-- The key is the number of the first row of a list.
+pub record IsFirst (item key : List ℕ) : Type 0 where
+  pub row : RowRef
+  pub rows : List RowRef
+  pub spells : Spells item (row ∷ rows)
+  pub is : key ≡ le64 row.number
 
--- so do all items of a page and of those below it
-abbrev pub IsKeyed : (level : ℕ) → List (List ℕ) → Node level → Type 0
-IsKeyed zero before node = Unit {0}
-IsKeyed (suc level) before node = AreKeyed level (IsKeyed level) before node.1
+-- the order of numbers
+abbrev pub by_number : Order
+by_number = record { IsKey = IsNumber; Less = λ a b. of64 a < of64 b; AtMost = λ a b. of64 a ≤ of64 b; AreIn = HaveRows; IsLeast = IsFirst }
 
+-- lists of which all rows stand before this one
+abbrev pub Allows : RowRef → List ℕ → Type 0
+Allows row item = (rows : List RowRef) → Spells item rows → AreBelow rows row.number
+
+-- The row comes behind all rows of some lists.
+abbrev pub Appends : RowRef → List (List ℕ) → List (List ℕ) → Type 0
+Appends row was is = (rows : List RowRef) → AreSpelled was rows → AreSpelled is (rows ++ row ∷ [])
+
+-- An item of a page above level 0 has a number in eight bytes: it is above every row number before it, and at most every one below it.
 -- The map holds the posting tree with these rows below a root page, on these pages.
 pub record HoldsList (map : PageMap) (count root : ℕ) (rows : List RowRef) (feet : List ℕ) : Type 0 where
   pub tree : Tree
@@ -50,7 +67,7 @@ pub record HoldsList (map : PageMap) (count root : ℕ) (rows : List RowRef) (fe
   pub stand : feet ≡ footprint tree
   pub spelled : AreSpelled (entries tree) rows
   pub rising : IsRising rows
-  pub keyed : IsKeyed tree.0 [] tree.1
+  pub keyed : IsKeyed by_number tree.0 None None tree.1
 
 -- The pages hold it, and beside it these free pages.
 pub record HoldsRows {P : Type 0} (g : Ghosts P) (pages : P) (root : ℕ) (rows : List RowRef) (feet free : List ℕ) : Type 0 where

@@ -68,7 +68,7 @@ two_each level (node ∷ nodes) two =
     let here = two.0 in
     omega (arith, rest, here, length-append (map (λ (item : List ℕ × Node level). item.1) node.1) (children level nodes), length-map node.1 (λ (item : List ℕ × Node level). item.1))
 
-many_leaves : (level : ℕ) (nodes : List (Node level)) → HaveTwo level nodes → 2 ^ level * length nodes ≤ length (leaves_of level nodes)
+pub many_leaves : (level : ℕ) (nodes : List (Node level)) → HaveTwo level nodes → 2 ^ level * length nodes ≤ length (leaves_of level nodes)
 many_leaves zero nodes two = omega arith
 many_leaves (suc level) nodes two =
     let rest = many_leaves level (children level nodes) two.1 in

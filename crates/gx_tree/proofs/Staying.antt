@@ -29,7 +29,7 @@ module _ (old new : PageMap) (kind : ℕ) where
   )
 
 module _ {P : Type 0} (g : Ghosts P) (old new : P) (before free after rest : List ℕ) (keeps : KeepsPages g old new before free after rest) where
-  each_same : (kind : ℕ) (pages : List ℕ) → AllByRecursion (IsKind (g.map old) (g.count old) kind) pages → AllByRecursion (λ page. IsOutside page (before ++ free)) pages
+  pub each_same : (kind : ℕ) (pages : List ℕ) → AllByRecursion (IsKind (g.map old) (g.count old) kind) pages → AllByRecursion (λ page. IsOutside page (before ++ free)) pages
       → AllByRecursion (λ page. g.map new page ≡ g.map old page) pages
   each_same kind [] are outside = tt
   each_same kind (page ∷ pages) are outside = (keeps.others page are.0.some are.0.below outside.0, each_same kind pages are.1 outside.1)

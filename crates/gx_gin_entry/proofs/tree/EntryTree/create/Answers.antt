@@ -6,7 +6,7 @@ returns-clause-made g c = λ tells free list.
     let made = c.in_ok-page.ensures.made tells free list in (
       made.0,
       record {
-        held = record { tree = (0, (c.in_ok-page.page, [])); held = made.1.held; stand = refl; spelled = refl; are = tt; rising = tt; keyed = tt };
+        held = record { tree = (0, (c.in_ok-page.page, [])); held = made.1.held; stand = refl; spelled = refl; are = tt; rising = tt; keyed = record { list = []; spelled = refl; are = tt; rising = tt; from = tt; under = tt } };
         frees = made.1.frees;
         apart = made.1.apart;
       },

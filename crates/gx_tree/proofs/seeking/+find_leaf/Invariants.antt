@@ -1,0 +1,4 @@
+use Rattle.gx_tree.proofs.seeking.+find_leaf.Given as goal
+
+abbrev pub decreases-find_leaf : goal.decreases-find_leaf
+decreases-find_leaf g l = l.level
