@@ -4,6 +4,7 @@
 mod chain;
 mod growth;
 mod keys;
+mod language;
 mod pages;
 mod texts;
 
@@ -17,6 +18,7 @@ usage: bench NAME ..
   keys    a million times each: read, test, weigh and unite keys of scalars
   texts   100,000 times each: read a text of a type, and print its value
   growth  operators on two equal values that grow tenfold
+  language  scripts up to 1 MiB: cut and parse, beside a plain pass; and hostile ones
 ";
 
 fn main(rt: HostRuntime) -> io::Result<()> {
@@ -38,6 +40,7 @@ fn run<R: Clock + Print + AllocGlobal>(rt: &R, name: &str) -> io::Result<()> {
         "keys" => keys::run(rt),
         "texts" => texts::run(rt),
         "growth" => growth::run(rt),
+        "language" => language::run(rt),
         _ => rt.print(HELP),
     }
 }
