@@ -12,6 +12,7 @@ mod LayerMaps
 mod Results
 mod Moments
 mod Opening
+mod Reasons
 mod Adding
 mod Closing
 mod Ending

@@ -9,6 +9,7 @@ mod format;
 mod free_list;
 mod header;
 mod keeper;
+mod laws;
 mod layers;
 mod open;
 mod pager;
@@ -17,5 +18,6 @@ mod reads;
 
 pub use header::Header;
 pub use keeper::Keeper;
+pub use laws::one_reason;
 pub use open::{Opened, read_file};
 pub use pager::Pager;

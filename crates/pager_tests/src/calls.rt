@@ -6,6 +6,7 @@ ghost use Rattle.gx_pager.specs.Memory.{changed};
 use gx_disk::{Host, MemoryHost};
 use gx_pager::{Header, Keeper, Pager};
 use gx_pages::{Page, PageError, Pages, Store};
+use std::alloc::Global;
 use std::test::Fail;
 
 // Takes a page, if it is asked to, puts page 2, and commits.
@@ -28,37 +29,60 @@ fn take_and_put<S: Store>(store: &mut S, take: bool) -> Result<(), PageError>
     }
 }
 
+// How many pages wait after one more commit, and then after another opening.
+fn waiting_after(alloc: Global, host: &mut MemoryHost, take: bool) -> Result<(u64, u64), Fail> {
+    let mut pager = Pager::open(alloc, host)?;
+    take_and_put(&mut pager, take)?;
+    let waiting = pager.waiting();
+    let _ = pager.close();
+    Ok((waiting, waiting_now(alloc, host)?))
+}
+
+fn waiting_now(alloc: Global, host: &mut MemoryHost) -> Result<u64, Fail> {
+    let pager = Pager::open(alloc, host)?;
+    let waiting = pager.waiting();
+    let _ = pager.close();
+    Ok(waiting)
+}
+
+fn header_of(alloc: Global, host: &mut MemoryHost) -> Result<Header, Fail> {
+    let pager = Pager::open(alloc, host)?;
+    let header = pager.header();
+    let _ = pager.close();
+    Ok(header)
+}
+
+// How many pages wait after a checkpoint.
+fn waiting_behind(alloc: Global, host: &mut MemoryHost) -> Result<u64, Fail> {
+    let mut pager = Pager::open(alloc, host)?;
+    pager.checkpoint()?;
+    let waiting = pager.waiting();
+    let _ = pager.close();
+    Ok(waiting)
+}
+
 #[test]
 fn waiting_pages(rt: HostRuntime) -> Result<(), Fail> {
     let alloc = rt.alloc();
     let mut host = MemoryHost::new(alloc, &[], &[], &[], &[])?;
     Pager::format(&mut host)?;
-    let mut pager = Pager::open(alloc, &mut host)?;
-    let empty = Header {
+    let mut header = Header {
         format: 2,
         count: 2,
         free: 0,
         catalog: 1,
     };
-    assert_eq!(rt; pager.header(), empty);
-    assert_eq!(rt; pager.waiting(), 0);
+    assert_eq!(rt; header_of(alloc, &mut host)?, header);
+    assert_eq!(rt; waiting_now(alloc, &mut host)?, 0);
     // Page 0 and the page that was taken, then that page alone, then both and another one that was taken.
-    take_and_put(&mut pager, true)?;
-    assert_eq!(rt; pager.waiting(), 2);
-    take_and_put(&mut pager, false)?;
-    assert_eq!(rt; pager.waiting(), 3);
-    take_and_put(&mut pager, true)?;
-    assert_eq!(rt; pager.waiting(), 6);
-    let _ = pager.close();
-    let mut again = Pager::open(alloc, &mut host)?;
-    assert_eq!(rt; again.waiting(), 6);
-    again.checkpoint()?;
-    assert_eq!(rt; again.waiting(), 0);
-    let _ = again.close();
-    let mut last = Pager::open(alloc, &mut host)?;
-    assert_eq!(rt; last.waiting(), 0);
-    assert_eq!(rt; last.header().count, 4);
-    let _ = last.close();
+    for (take, waiting) in [(true, 2), (false, 3), (true, 6)] {
+        let found = waiting_after(alloc, &mut host, take)?;
+        assert_eq!(rt; found, (waiting, waiting));
+    }
+    assert_eq!(rt; waiting_behind(alloc, &mut host)?, 0);
+    assert_eq!(rt; waiting_now(alloc, &mut host)?, 0);
+    header.count = 4;
+    assert_eq!(rt; header_of(alloc, &mut host)?, header);
     Ok(())
 }
 
