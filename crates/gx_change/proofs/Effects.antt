@@ -25,7 +25,7 @@ use Rattle.gx_model.specs.Steps.{Costs, Inserts, Stepped, Steps, done, new_table
 use Rattle.gx_database.specs.Heaps.{Stored}
 use Rattle.gx_database.specs.Standing.{AreStored, IsStored, SpellsStored, StandsFor}
 use Rattle.gx_engine.specs.Vacuumed.{IsVacuumed}
-use Rattle.gx_step.specs.Doing.{Done, LacksRoom}
+use Rattle.gx_step.specs.Doing.{Done, LacksRoom, growth_in}
 use Rattle.gx_change.specs.Appended.{AreNumbered}
 use Rattle.gx_step.specs.Opened.{Opened}
 use Rattle.gx_change.proofs.Changed.{table_added, table_changed, table_dropped, table_vacuumed}
@@ -34,6 +34,10 @@ use Rattle.gx_step.proofs.Loading.{IsTold}
 use Rattle.gx_change.proofs.Frame.{HasTable}
 use Rattle.gx_change.proofs.Names.{StaysValid, few_columns, has_short_names}
 use Rattle.gx_change.proofs.NewRows.{numbers_fit, reads_length, spelled_more, zip_join, zip_length}
+
+-- a statement steps a database in one way
+abbrev pub OneStep : Type 0
+OneStep = (db : Database) (said : Said) (a b : Stepped) → Steps db said a → Steps db said b → a ≡ b
 
 never : (k : ℕ) → Some k ≡ None → ⊥
 never k e = cc
@@ -200,11 +204,30 @@ module _ {P : Type 0} (g : Ghosts P) where
         full = omega (arith, full, many, added);
       }
 
+  -- where its rows are read, it may add a page for each
+  pub insert_grows : OneStep → (pages : P) (db : Database) (catalog : Directory) (name : List ℕ) (info : TableInfo) (t : HasTable g pages db catalog name info) → info.name ≡ name
+      → (listed : Option (List (List ℕ))) (rows : List (List Given)) (bytes : List (List ℕ)) → Find (insert_checks listed rows t.table) None → Encode t.table.columns listed rows bytes
+      → (stepped : Stepped) → Steps db (Insert name listed rows) stepped → (old new : ℕ) → new ≤ old + length bytes → new ≤ old + growth_in (Insert name listed rows) stepped
+  insert_grows one pages db catalog name info t named listed rows bytes none encoded stepped steps old new count =
+      let many : length bytes ≡ length encoded.added = zip_length _ bytes encoded.added encoded.spelled in
+      let added : length encoded.added ≡ length rows = reads_length t.table.columns _ rows encoded.added encoded.read in
+      let after : Stepped = done (with_table db name (with_rows t.table encoded.added)) (codes "INSERT 0 " ++ decimal (length rows)) in
+      let same : after ≡ stepped = one db (Insert name listed rows) after stepped (insert_steps pages db catalog name info t named listed rows bytes none encoded) steps in
+      subst (λ (s : Stepped). new ≤ old + growth_in (Insert name listed rows) s) same (omega (arith, count, many, added))
+
   -- CREATE TABLE
 
   pub create_steps : (db : Database) (name : List ℕ) (columns : List ColumnWord) → table_named db name ≡ None → (nat_le 256 (length db.tables) || nat_lt 32 (length columns)) ≡ false
       → Find (new_column_checks [] columns) None → Steps db (CreateTable name columns) (done (with_new_table db name columns) (codes "CREATE TABLE"))
   create_steps db name columns absent few none = inr (inl (ap is_some absent, inl (few, none)), refl)
+
+  -- where no check finds a fault, it may add two pages
+  pub create_grows : OneStep → (db : Database) (name : List ℕ) (columns : List ColumnWord) → table_named db name ≡ None → (nat_le 256 (length db.tables) || nat_lt 32 (length columns)) ≡ false
+      → Find (new_column_checks [] columns) None → (stepped : Stepped) → Steps db (CreateTable name columns) stepped → (old new : ℕ) → new ≤ old + 2 → new ≤ old + growth_in (CreateTable name columns) stepped
+  create_grows one db name columns absent few none stepped steps old new count =
+      let after : Stepped = done (with_new_table db name columns) (codes "CREATE TABLE") in
+      let same : after ≡ stepped = one db (CreateTable name columns) after stepped (create_steps db name columns absent few none) steps in
+      subst (λ (s : Stepped). new ≤ old + growth_in (CreateTable name columns) s) same (omega (arith, count))
 
   pub create_lacks_room : (db : Database) (name : List ℕ) (columns : List ColumnWord) → table_named db name ≡ None → (nat_le 256 (length db.tables) || nat_lt 32 (length columns)) ≡ false
       → Find (new_column_checks [] columns) None → (count : ℕ) → 2 ^ 50 ≤ count + 2 → LacksRoom count (CreateTable name columns) db

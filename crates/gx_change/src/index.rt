@@ -41,6 +41,7 @@ pub fn create_index<P: Pages, L: Ledger>(
     ensures ordinary { IfOk result (λ reply. IsOrdinary (reply_of reply)) }
     ensures cause { IfErr result (HasCause (P.faults pages.old) (P.faults pages.new)
         (λ at expected found. StandForNone P.Pages pages.old) (λ count. ⊥) (Unit {0})) }
+    ensures count { P.count pages.new ≡ P.count pages.old }
     ensures least { IsUnbroken result → P.heap_fetches pages.new + steps.old ≤ P.heap_fetches pages.old + steps.new }
     ensures most { AtMostCosts P.Pages pages.old (CreateIndex name.now table.now method.now column.now (option_copied class.entry) (option_copied parameter.entry)) steps.old steps.new }
     ensures quiet { StaysQuiet P.Pages pages.old pages.new }
@@ -63,6 +64,7 @@ pub fn drop_index<P: Pages, L: Ledger>(
     ensures ordinary { IfOk result (λ reply. IsOrdinary (reply_of reply)) }
     ensures cause { IfErr result (HasCause (P.faults pages.old) (P.faults pages.new)
         (λ at expected found. StandForNone P.Pages pages.old) (λ count. ⊥) (Unit {0})) }
+    ensures count { P.count pages.new ≡ P.count pages.old }
     ensures least { IsUnbroken result → P.heap_fetches pages.new + steps.old ≤ P.heap_fetches pages.old + steps.new }
     ensures most { AtMostCosts P.Pages pages.old (DropIndex name.now) steps.old steps.new }
     ensures quiet { StaysQuiet P.Pages pages.old pages.new }

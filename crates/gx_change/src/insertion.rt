@@ -9,7 +9,7 @@ ghost use Rattle.gx_heap.specs.Heaps.{HoldsHeap, HoldsNoHeap, Row};
 ghost use Rattle.gx_engine.specs.Engines.{reply_of};
 ghost use Rattle.gx_parse.specs.Said.{Insert};
 ghost use Rattle.gx_parse.specs.Sound.{IsSound};
-ghost use Rattle.gx_step.specs.Doing.{AtMostCosts, DoneFor, IsOrdinary, LackRoomFor, StandForNone};
+ghost use Rattle.gx_step.specs.Doing.{AtMostCosts, AtMostGrows, DoneFor, IsOrdinary, LackRoomFor, StandForNone};
 ghost use Rattle.gx_change.specs.Appended.{AreNumbered};
 
 use crate::appending::append_rows;
@@ -38,6 +38,7 @@ pub fn insert<P: Pages, L: Ledger>(
     ensures cause { IfErr result (HasCause (P.faults pages.old) (P.faults pages.new)
         (λ at expected found. StandForNone P.Pages pages.old)
         (λ count. LackRoomFor P.Pages pages.old (Insert table.now (option_copied listed.entry) rows.now)) (Unit {0})) }
+    ensures grows { AtMostGrows P.Pages pages.old pages.new (Insert table.now (option_copied listed.entry) rows.now) }
     ensures least { IsUnbroken result → P.heap_fetches pages.new + steps.old ≤ P.heap_fetches pages.old + steps.new }
     ensures most { AtMostCosts P.Pages pages.old (Insert table.now (option_copied listed.entry) rows.now) steps.old steps.new }
     ensures quiet { StaysQuiet P.Pages pages.old pages.new }
@@ -45,6 +46,7 @@ pub fn insert<P: Pages, L: Ledger>(
     gx_step::tables_are_found();
     gx_catalog::found_among();
     gx_model::stays_valid();
+    gx_model::one_turn();
     let mut catalog = load(alloc, pages)?;
     let Some(info) = catalog.table(table) else {
         return refused(alloc, 2);

@@ -7,7 +7,7 @@ ghost use Rattle.gx_chain.specs.Chains.{IsSound as IsUnbroken};
 ghost use Rattle.gx_engine.specs.Engines.{reply_of};
 ghost use Rattle.gx_parse.specs.Said.{CreateTable, DropTable};
 ghost use Rattle.gx_parse.specs.Sound.{IsSound};
-ghost use Rattle.gx_step.specs.Doing.{AtMostCosts, DoneFor, IsOrdinary, LackRoomFor, StandForNone};
+ghost use Rattle.gx_step.specs.Doing.{AtMostCosts, AtMostGrows, DoneFor, IsOrdinary, LackRoomFor, StandForNone};
 
 use gx_bytes::Bytes;
 use gx_catalog::TableInfo;
@@ -35,6 +35,7 @@ pub fn create_table<P: Pages, L: Ledger>(
     ensures cause { IfErr result (HasCause (P.faults pages.old) (P.faults pages.new)
         (λ at expected found. StandForNone P.Pages pages.old)
         (λ count. LackRoomFor P.Pages pages.old (CreateTable name.now columns.now)) (Unit {0})) }
+    ensures grows { AtMostGrows P.Pages pages.old pages.new (CreateTable name.now columns.now) }
     ensures least { IsUnbroken result → P.heap_fetches pages.new + steps.old ≤ P.heap_fetches pages.old + steps.new }
     ensures most { AtMostCosts P.Pages pages.old (CreateTable name.now columns.now) steps.old steps.new }
     ensures quiet { StaysQuiet P.Pages pages.old pages.new }
@@ -42,6 +43,7 @@ pub fn create_table<P: Pages, L: Ledger>(
     gx_step::tables_are_found();
     gx_catalog::one_more_table();
     gx_model::stays_valid();
+    gx_model::one_turn();
     let mut catalog = load(alloc, pages)?;
     if let Some(_table) = catalog.table(name) {
         return refused(alloc, 3);
@@ -82,6 +84,7 @@ pub fn drop_table<P: Pages, L: Ledger>(
     ensures ordinary { IfOk result (λ reply. IsOrdinary (reply_of reply)) }
     ensures cause { IfErr result (HasCause (P.faults pages.old) (P.faults pages.new)
         (λ at expected found. StandForNone P.Pages pages.old) (λ count. ⊥) (Unit {0})) }
+    ensures count { P.count pages.new ≡ P.count pages.old }
     ensures least { IsUnbroken result → P.heap_fetches pages.new + steps.old ≤ P.heap_fetches pages.old + steps.new }
     ensures most { AtMostCosts P.Pages pages.old (DropTable name.now) steps.old steps.new }
     ensures quiet { StaysQuiet P.Pages pages.old pages.new }

@@ -36,6 +36,10 @@ pub record HasAtMost {P : Type 0} (g : Ghosts P) (store : P) (pages : ℕ) : Typ
   pub now : g.count store ≤ pages
   pub committed : g.committed_count store ≤ pages
 
+-- There are at most so many pages more than before, now and at the last commit.
+abbrev pub GrowsBy : {P : Type 0} → Ghosts P → P → P → ℕ → Type 0
+GrowsBy g old new more = (pages : ℕ) → HasAtMost g old pages → HasAtMost g new (pages + more)
+
 -- Nothing waits to be committed: the map is the committed one.
 pub record IsSettled {P : Type 0} (g : Ghosts P) (store : P) : Type 0 where
   pub map : g.map store ≡ g.committed store
@@ -50,7 +54,7 @@ pub record Executed {P : Type 0} (g : Ghosts P) (old new : P) (kind : Kind) (ses
   pub after : Session
   pub answers : Answers (g.count old) session turned reply after
   pub is_in : IsIn g new kind after
-  pub grows : (pages : ℕ) → HasAtMost g old pages → HasAtMost g new (pages + turned.growth)
+  pub grows : GrowsBy g old new turned.growth
   pub time : Between g.moment g.may_have_left_since old new (λ m. (g.may_leave old m.image ⊎ StandsFor m.image after.committed) × (m.bytes ≡ (g.said old).bytes))
 
 -- The disk failed within the piece: the commit of an accepted statement was made or wasn't.

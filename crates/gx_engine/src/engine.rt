@@ -5,10 +5,10 @@ ghost use Rattle.gx_words.specs.Causes.{Rose};
 ghost use Rattle.gx_lexer.specs.Feeding.{piece_of};
 ghost use Rattle.gx_chain.specs.Chains.{IsSound};
 ghost use Rattle.gx_pages.specs.Pages.{HasCause};
-ghost use Rattle.gx_model.specs.Turns.{Session, TurnCosts, reading_of};
+ghost use Rattle.gx_model.specs.Turns.{Session, Turned, Turns, TurnCosts, reading_of};
 ghost use Rattle.gx_parse.specs.Answers.{says};
 ghost use Rattle.gx_parse.specs.Said.{Vacuum};
-ghost use Rattle.gx_engine.specs.Engines.{IsIn, IsSettled, Executed, Stopped, Unmade, reply_of, checkpoint_reply};
+ghost use Rattle.gx_engine.specs.Engines.{GrowsBy, IsIn, IsSettled, Executed, Stopped, Unmade, reply_of, checkpoint_reply};
 ghost use Rattle.gx_engine.specs.Vacuumed.{IsVacuumed};
 
 use crate::execute::Execute;
@@ -86,6 +86,10 @@ impl<P: Store> Engine<P> {
         ensures memory { result ≡ Err PageError.Memory → P.tells → (session : Session) → IsIn P.Pages self.old.store self.old.kind session → Unmade P.Pages self.old.store self.new.store }
         ensures cause { IfErr result (HasCause (P.faults self.old.store) (P.faults self.new.store)
             (λ at expected found. P.tells → (session : Session) → IsIn P.Pages self.old.store self.old.kind session → ⊥) (λ _. ⊥) (Unit {0})) }
+
+        // After an error too there are no more pages than before and those that the turn may add.
+        ensures grows { P.tells → (session : Session) (text : List ℕ) → IsIn P.Pages self.old.store self.old.kind session → piece_of text ≡ piece.now → (turned : Turned) → Turns session text turned
+            → GrowsBy P.Pages self.old.store self.new.store turned.growth }
 
         // At least as many steps as heap pages were fetched, but where the pages are broken.
         ensures least { IsSound result → P.heap_fetches self.new.store + steps.old ≤ P.heap_fetches self.old.store + steps.new }

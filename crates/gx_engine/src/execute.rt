@@ -4,10 +4,10 @@ ghost use Rattle.std.specs.Prelude.{◌≡◌, ◌⊎◌, ℕ, ◌+◌, ◌≤�
 ghost use Rattle.gx_lexer.specs.Feeding.{piece_of};
 ghost use Rattle.gx_chain.specs.Chains.{IsSound};
 ghost use Rattle.gx_pages.specs.Pages.{HasCause};
-ghost use Rattle.gx_model.specs.Turns.{Session, TurnCosts, reading_of};
+ghost use Rattle.gx_model.specs.Turns.{Session, Turned, Turns, TurnCosts, reading_of};
 ghost use Rattle.gx_parse.specs.Answers.{says};
 ghost use Rattle.gx_parse.specs.Said.{Vacuum};
-ghost use Rattle.gx_engine.specs.Engines.{IsIn, IsSettled, Executed, Stopped, Unmade, reply_of, checkpoint_reply};
+ghost use Rattle.gx_engine.specs.Engines.{GrowsBy, IsIn, IsSettled, Executed, Stopped, Unmade, reply_of, checkpoint_reply};
 ghost use Rattle.gx_engine.specs.Vacuumed.{IsVacuumed};
 
 use crate::engine::Kind;
@@ -49,6 +49,10 @@ pub trait Execute {
         ensures memory { result ≡ Err PageError.Memory → P.tells → (session : Session) → IsIn P.Pages store.old kind.old session → Unmade P.Pages store.old store.new }
         ensures cause { IfErr result (HasCause (P.faults store.old) (P.faults store.new)
             (λ at expected found. P.tells → (session : Session) → IsIn P.Pages store.old kind.old session → ⊥) (λ _. ⊥) (Unit {0})) }
+
+        // After an error too there are no more pages than before and those that the turn may add.
+        ensures grows { P.tells → (session : Session) (text : List ℕ) → IsIn P.Pages store.old kind.old session → piece_of text ≡ piece.now → (turned : Turned) → Turns session text turned
+            → GrowsBy P.Pages store.old store.new turned.growth }
 
         // At least as many steps as heap pages were fetched, but where the pages are broken.
         ensures least { IsSound result → P.heap_fetches store.new + steps.old ≤ P.heap_fetches store.old + steps.new }

@@ -34,6 +34,7 @@ pub fn select<P: Pages, L: Ledger>(
     ensures cause { IfErr result (HasCause (P.faults pages.old) (P.faults pages.new)
         (λ at expected found. StandForNone P.Pages pages.old)
         (λ count. ⊥) (Unit {0})) }
+    ensures count { P.count pages.new ≡ P.count pages.old }
     ensures least { IsSound result → P.heap_fetches pages.new + steps.old ≤ P.heap_fetches pages.old + steps.new }
     ensures most { AtMostCosts P.Pages pages.old (said.Select (query_of query.now)) steps.old steps.new }
     ensures quiet { StaysQuiet P.Pages pages.old pages.new }
@@ -60,6 +61,7 @@ pub fn explain<P: Pages, L: Ledger>(
     ensures cause { IfErr result (HasCause (P.faults pages.old) (P.faults pages.new)
         (λ at expected found. StandForNone P.Pages pages.old)
         (λ count. ⊥) (Unit {0})) }
+    ensures count { P.count pages.new ≡ P.count pages.old }
     ensures least { IsSound result → P.heap_fetches pages.new + steps.old ≤ P.heap_fetches pages.old + steps.new }
     ensures most { AtMostCosts P.Pages pages.old (said.Explain (query_of query.now)) steps.old steps.new }
     ensures quiet { StaysQuiet P.Pages pages.old pages.new }
@@ -87,6 +89,7 @@ pub fn delete<P: Pages, L: Ledger>(
     ensures cause { IfErr result (HasCause (P.faults pages.old) (P.faults pages.new)
         (λ at expected found. StandForNone P.Pages pages.old)
         (λ count. ⊥) (Unit {0})) }
+    ensures count { P.count pages.new ≡ P.count pages.old }
     ensures least { IsSound result → P.heap_fetches pages.new + steps.old ≤ P.heap_fetches pages.old + steps.new }
     ensures most { AtMostCosts P.Pages pages.old (said.Delete table.now (option_map tree_of (option_copied condition.entry))) steps.old steps.new }
     ensures quiet { StaysQuiet P.Pages pages.old pages.new }

@@ -12,10 +12,10 @@ use Rattle.gx_model.specs.Replies.{Reply}
 use Rattle.gx_model.specs.Runs.{Answers}
 use Rattle.gx_model.specs.Turns.{Session, Block, idle, begun, failed, broken_off, refused_in, seen, seen_in, seen_as, with_seen, session_over, Turned, Turns}
 use Rattle.gx_engine.specs.Times.{Between}
-use Rattle.gx_engine.specs.Engines.{IsIn, IsSettled, HasAtMost, Executed, Stopped, Unmade, kind_of}
+use Rattle.gx_engine.specs.Engines.{GrowsBy, IsIn, IsSettled, HasAtMost, Executed, Stopped, Unmade, kind_of}
 use Rattle.gx_engine.specs.declared.engine.Kind.{Kind}
 use Rattle.gx_engine.specs.declared.engine.Kind.TheVariants.{Idle, Begun, Failed}
-use Rattle.gx_session.specs.Moves.{Keeps, MayCommit, Moved, MayHaveMoved, GoesOn, broken}
+use Rattle.gx_session.specs.Moves.{Keeps, MayCommit, Moved, MayHaveMoved, NeverGrows, GoesOn, broken}
 use Rattle.gx_session.proofs.Times.{still, becomes, joins}
 
 -- Blocks.
@@ -206,6 +206,20 @@ module _ {P : Type 0} (g : Ghosts P) where
     left = λ map l. elim (m.left map l) [ inl was ↦ inl (u.left map was) | inr is ↦ inr is ];
     time = commit_behind a c d turned.session.committed said u m.time;
   }
+
+  -- How many pages there are.
+
+  pub never_same : (a b : P) → g.count b ≡ g.count a → g.committed_count b ≡ g.committed_count a → NeverGrows g a b
+  never_same a b count committed_count = λ pages h. let now = h.now in let made = h.committed in record { now = omega (arith, now, count); committed = omega (arith, made, committed_count) }
+
+  -- either count is the one of before
+  pub never_more : (a b : P) (n : ℕ) → g.count b ≡ n → g.committed_count b ≡ n → (n ≡ g.count a) ⊎ (n ≡ g.committed_count a) → NeverGrows g a b
+  never_more a b n count committed_count (inl same) = λ pages h. let now = h.now in record { now = omega (arith, now, count, same); committed = omega (arith, now, committed_count, same) }
+  never_more a b n count committed_count (inr same) = λ pages h. let made = h.committed in record { now = omega (arith, made, count, same); committed = omega (arith, made, committed_count, same) }
+
+  -- no page more is no more than any number
+  pub grows_by : (a b : P) (more : ℕ) → NeverGrows g a b → GrowsBy g a b more
+  grows_by a b more never = λ pages h. let most = never pages h in let now = most.now in let made = most.committed in record { now = omega (arith, now); committed = omega (arith, made) }
 
   -- What lies below.
 

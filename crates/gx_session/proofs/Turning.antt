@@ -350,3 +350,58 @@ vacuum_refused kind s table t is same not none = by kind t (same ∙ ap (λ (x :
     by Idle x e never no_fault = never e
     by Begun x e never no_fault = let Fault : Task → Type 0 = λ y. (reply_to y).fault ≡ None in refused_none 23 (subst Fault e no_fault)
     by Failed x e never no_fault = let Fault : Task → Type 0 = λ y. (reply_to y).fault ≡ None in refused_none 22 (subst Fault e no_fault)
+
+-- What a statement adds that works on the database that the session sees.
+
+-- the step of a statement with this turn, which adds no more pages
+pub record StepOf (session : Session) (s : Said) (turned : Turned) : Type 0 where
+  pub stepped : Stepped
+  pub steps : Steps (seen session) s stepped
+  pub grows : growth_in s stepped ≤ turned.growth
+
+abbrev SeenAs : Task → Session → Said → Type 0
+SeenAs task.Work session said = (turned : Turned) → TurnsSaid session said turned → TurnsSeen session said turned
+SeenAs t session said = Unit {0}
+
+handed_outside : (db : Database) (s : Said) → SeenAs (idle_task s) (record { committed = db; block = idle }) s
+handed_outside db said.Nothing = tt
+handed_outside db said.Begin = tt
+handed_outside db said.Commit = tt
+handed_outside db said.Rollback = tt
+handed_outside db said.Checkpoint = tt
+handed_outside db s = λ turned h. h
+
+handed_inside : (db own : Database) (s : Said) → SeenAs (begun_task s) (record { committed = db; block = begun own }) s
+handed_inside db own said.Nothing = tt
+handed_inside db own said.Begin = tt
+handed_inside db own said.Commit = tt
+handed_inside db own said.Rollback = tt
+handed_inside db own said.Checkpoint = tt
+handed_inside db own (said.Vacuum table) = tt
+handed_inside db own s = λ turned h. h
+
+handed_failed : (db : Database) (s : Said) → SeenAs (failed_task s) (record { committed = db; block = failed }) s
+handed_failed db said.Nothing = tt
+handed_failed db said.Commit = tt
+handed_failed db said.Rollback = tt
+handed_failed db s = tt
+
+handed_as : (db : Database) (b : Block) (s : Said) → SeenAs (task_in (kind_of b) s) (record { committed = db; block = b }) s
+handed_as db idle s = handed_outside db s
+handed_as db (begun own) s = handed_inside db own s
+handed_as db failed s = handed_failed db s
+
+step_seen : (session : Session) (s : Said) (turned : Turned) → TurnsSeen session s turned → StepOf session s turned
+step_seen session s turned (inl h) = record { stepped = record { database = seen session; reply = refusal h.0 }; steps = inl (h.0, h.1, refl); grows = omega arith }
+step_seen session s turned (inr h) =
+    let growth : turned.growth ≡ growth_of s = ap (λ (t : Turned). t.growth) h.3 in
+    let most = at_most_so (is_some h.1.reply.fault) (growth_of s) in
+    record { stepped = h.1; steps = inr (h.0, h.2); grows = omega (arith, growth, most) }
+
+pub step_of : (session : Session) (text : List ℕ) (s : Said) (kind : Kind) (turned : Turned) → ReadAs text s → kind ≡ kind_of session.block → task_in kind s ≡ task.Work → Turns session text turned
+    → StepOf session s turned
+step_of session text s kind turned read block work turns =
+    let By : Option answers.Answer → Type 0 = λ r. TurnsBy r session turned in
+    let As : Task → Type 0 = λ x. SeenAs x session s in
+    let seen_by = subst As (ap (λ (k : Kind). task_in k s) (sym block) ∙ work) (handed_as session.committed session.block s) in
+    step_seen session s turned (seen_by turned (subst By read turns))

@@ -8,14 +8,14 @@ use Rattle.gx_model.specs.Database.{Database}
 use Rattle.gx_model.specs.Replies.{Reply, refusal}
 use Rattle.gx_model.specs.Runs as runs
 use Rattle.gx_model.specs.Steps.{Stepped, Steps}
-use Rattle.gx_model.specs.Turns.{Session, Turned, refused_in, seen}
+use Rattle.gx_model.specs.Turns.{Session, Turned, Turns, refused_in, seen}
 use Rattle.gx_parse.specs.Said.{Said, Vacuum}
-use Rattle.gx_engine.specs.Engines.{IsIn, HasAtMost, Executed, Stopped, Unmade, kind_of}
+use Rattle.gx_engine.specs.Engines.{GrowsBy, IsIn, HasAtMost, Executed, Stopped, Unmade, kind_of}
 use Rattle.gx_engine.specs.Vacuumed.{IsVacuumed}
 use Rattle.gx_engine.specs.declared.engine.Kind.{Kind}
 use Rattle.gx_engine.specs.declared.engine.Kind.TheVariants.{Idle}
-use Rattle.gx_step.specs.Doing.{Done, IsOrdinary, LacksRoom, Vacuums}
-use Rattle.gx_session.specs.Moves.{Keeps, Moved, MayHaveMoved, behind}
+use Rattle.gx_step.specs.Doing.{AtMostGrows, Done, IsOrdinary, LacksRoom, Vacuums}
+use Rattle.gx_session.specs.Moves.{Keeps, Moved, MayHaveMoved, NeverGrows, behind}
 use Rattle.gx_session.specs.Readings.{ReadAs}
 use Rattle.gx_session.specs.Tasks.{task_in}
 use Rattle.gx_session.specs.declared.task.Task.TheVariants as task
@@ -80,6 +80,16 @@ module _ {P : Type 0} (g : Ghosts P) (a b c d : P) (kind : Kind) (session : Sess
       moving.executed g a c d next session (refused_in session) text reply t.turned (turning.turn_of session text s t.turned read t.turns)
       (inr (record { accepted = l.accepted; grows = l.grows; full = omega (arith, full, count) }, is_20, refl))
       (λ pages h. let made = h.committed in shrinks (pages + t.turned.growth) (omega (arith, made, kept, committed_count))) said_so first (moved session keeps)
+
+  -- a statement adds no more pages than its turn may
+  pub grown_so : (turned : Turned) → Turns session text turned → g.count b ≡ g.count a → g.committed_count b ≡ g.committed_count a → AtMostGrows g b c s → g.tells → NeverGrows g c d → GrowsBy g a d turned.growth
+  grown_so turned turns count committed_count grows tells never =
+      let t = turning.step_of session text s kind turned read is.block work turns in
+      let grown = grows tells (seen session) here.map t.stepped t.steps in
+      let more = t.grows in
+      let kept = quiet.committed_count in
+      λ pages h. let now = h.now in let made = h.committed in
+      never (pages + turned.growth) (record { now = omega (arith, now, more, grown, count); committed = omega (arith, made, kept, committed_count) })
 
 -- An accepted VACUUM.
 module _ {P : Type 0} (g : Ghosts P) (b c d : P) (kind : Kind) (session : Session) (s : Said) (block : kind ≡ kind_of session.block) (work : task_in kind s ≡ task.Work) where

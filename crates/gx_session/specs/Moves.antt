@@ -20,10 +20,14 @@ pub record Keeps {P : Type 0} (g : Ghosts P) (store : P) (kind : Kind) (session 
 abbrev pub MayCommit : {P : Type 0} → Ghosts P → P → P → Database → Type 0
 MayCommit g old new db = Between g.moment g.may_have_left_since old new (λ m. (g.may_leave old m.image ⊎ StandsFor m.image db) × (m.bytes ≡ (g.said old).bytes))
 
+-- there is no page more, now and at the last commit
+abbrev pub NeverGrows : {P : Type 0} → Ghosts P → P → P → Type 0
+NeverGrows g old new = (pages : ℕ) → HasAtMost g old pages → HasAtMost g new pages
+
 -- The store is now where it stands for the session, and has no page more.
 pub record Moved {P : Type 0} (g : Ghosts P) (old new : P) (kind : Kind) (session : Session) : Type 0 where
   pub is_in : IsIn g new kind session
-  pub grows : (pages : ℕ) → HasAtMost g old pages → HasAtMost g new pages
+  pub grows : NeverGrows g old new
   pub time : MayCommit g old new session.committed
 
 -- The disk failed where this database was to be the committed one: it is, or the one of before is.

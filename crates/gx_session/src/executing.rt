@@ -3,12 +3,12 @@
 ghost use Rattle.std.specs.Prelude.{◌≡◌, ◌⊎◌, ℕ, ◌+◌, ◌≤◌, false, List, [], None, Err, IfOk, IfErr, OnOk};
 ghost use Rattle.gx_chain.specs.Chains.{IsSound as IsUnbroken};
 ghost use Rattle.gx_pages.specs.Pages.{Beside, HasCause};
-ghost use Rattle.gx_model.specs.Turns.{Session, TurnCosts};
-ghost use Rattle.gx_engine.specs.Engines.{IsIn, IsSettled, Executed, Stopped, Unmade, reply_of, checkpoint_reply};
+ghost use Rattle.gx_model.specs.Turns.{Session, Turned, Turns, TurnCosts};
+ghost use Rattle.gx_engine.specs.Engines.{GrowsBy, IsIn, IsSettled, Executed, Stopped, Unmade, reply_of, checkpoint_reply};
 ghost use Rattle.gx_engine.specs.Vacuumed.{IsVacuumed};
 ghost use Rattle.gx_parse.specs.Said.{Vacuum, said_of};
 ghost use Rattle.gx_parse.specs.Sound.{IsSound};
-ghost use Rattle.gx_session.specs.Moves.{GoesOn, Moved, MayHaveMoved};
+ghost use Rattle.gx_session.specs.Moves.{GoesOn, Moved, MayHaveMoved, NeverGrows};
 ghost use Rattle.gx_session.specs.Readings.{ReadAs};
 ghost use Rattle.gx_session.specs.Tasks.{IsFor, IsStill, after_of, reply_to};
 
@@ -42,6 +42,8 @@ pub fn execute_statement<P: Store, L: Ledger>(
     ensures memory { result ≡ Err PageError.Memory → P.tells → (session : Session) → IsIn P.Pages store.old kind.old session → Unmade P.Pages store.old store.new }
     ensures cause { IfErr result (HasCause (P.faults store.old) (P.faults store.new)
         (λ at expected found. P.tells → (session : Session) → IsIn P.Pages store.old kind.old session → ⊥) (λ _. ⊥) (Unit {0})) }
+    ensures grows { P.tells → (session : Session) (text : List ℕ) → IsIn P.Pages store.old kind.old session → ReadAs text (said_of statement.now) → (turned : Turned) → Turns session text turned
+        → GrowsBy P.Pages store.old store.new turned.growth }
     ensures most { P.tells → (session : Session) (text : List ℕ) → IsIn P.Pages store.old kind.old session → ReadAs text (said_of statement.now)
         → (n : ℕ) → TurnCosts session text n → steps.new ≤ steps.old + n }
     ensures silent { IfOk result (λ reply. reply.bytes ≡ [] → store.new ≡ store.old) }
@@ -75,6 +77,7 @@ fn answer_task<P: Store>(
     ensures memory { result ≡ Err PageError.Memory → P.tells → (session : Session) → IsIn P.Pages store.old kind.old session → Unmade P.Pages store.old store.new }
     ensures cause { IfErr result (HasCause (P.faults store.old) (P.faults store.new) (λ _ _ _. ⊥) (λ _. ⊥) (Unit {0})) }
     ensures still { IsStill task → (store.new ≡ store.old) × (kind.new ≡ kind.old) }
+    ensures grows { NeverGrows P.Pages store.old store.new }
     ensures heap { P.heap_fetches store.new ≡ P.heap_fetches store.old }
     ensures goes { GoesOn P.Pages store.old store.new }
     ensures sound { OnOk result (P.spoiled store.new ≡ false) }
@@ -98,6 +101,7 @@ fn carry_out<P: Store>(store: &mut P, kind: &mut Kind, task: Task) -> Result<(),
     ensures memory { result ≡ Err PageError.Memory → P.tells → (session : Session) → IsIn P.Pages store.old kind.old session → Unmade P.Pages store.old store.new }
     ensures cause { IfErr result (HasCause (P.faults store.old) (P.faults store.new) (λ _ _ _. ⊥) (λ _. ⊥) (Unit {0})) }
     ensures still { IsStill task → (store.new ≡ store.old) × (kind.new ≡ kind.old) }
+    ensures grows { NeverGrows P.Pages store.old store.new }
     ensures heap { P.heap_fetches store.new ≡ P.heap_fetches store.old }
     ensures goes { GoesOn P.Pages store.old store.new }
     ensures sound { OnOk result (P.spoiled store.new ≡ false) }

@@ -6,7 +6,7 @@ ghost use Rattle.gx_database.specs.Standing.{StandsFor};
 ghost use Rattle.gx_model.specs.Database.{Database};
 ghost use Rattle.gx_model.specs.Turns.{Session, begun, refused_in, session_over, with_seen};
 ghost use Rattle.gx_engine.specs.Engines.{HasAtMost, IsIn, IsSettled, Unmade};
-ghost use Rattle.gx_session.specs.Moves.{Keeps, Moved, MayHaveMoved, broken};
+ghost use Rattle.gx_session.specs.Moves.{Keeps, Moved, MayHaveMoved, NeverGrows, broken};
 
 use gx_engine::Kind;
 use gx_pages::{PageError, Store};
@@ -33,6 +33,7 @@ pub fn open_block<P: Store>(store: &mut P, kind: &mut Kind)
     requires idle { kind.old ≡ Kind.Idle }
     ensures moved { P.tells → (session : Session) → IsIn P.Pages store.old kind.old session
         → Moved P.Pages store.old store.new kind.new (record { committed = session.committed; block = begun session.committed }) }
+    ensures grows { NeverGrows P.Pages store.old store.new }
     ensures beside { Beside P.said P.fetches P.heap_fetches P.faults P.follows store.old store.new }
     ensures sound { P.spoiled store.new ≡ false }
 {
@@ -67,6 +68,7 @@ fn broken_off(kind: Kind) -> Kind
 pub fn roll_back<P: Store>(store: &mut P, kind: &mut Kind)
     ensures moved { P.tells → (session : Session) → Keeps P.Pages store.old kind.old session → Moved P.Pages store.old store.new kind.new (session_over session.committed) }
     ensures settled { P.tells → IsSettled P.Pages store.new }
+    ensures grows { NeverGrows P.Pages store.old store.new }
     ensures beside { Beside P.said P.fetches P.heap_fetches P.faults P.follows store.old store.new }
     ensures sound { P.spoiled store.new ≡ P.spoiled store.old }
 {
@@ -85,6 +87,7 @@ pub fn commit<P: Store>(store: &mut P, kind: &mut Kind) -> Result<(), PageError>
         → MayHaveMoved P.Pages store.old store.new db }
     ensures memory { result ≡ Err PageError.Memory → P.tells → (session : Session) → Keeps P.Pages store.old kind.old session → Unmade P.Pages store.old store.new }
     ensures cause { IfErr result (HasCause (P.faults store.old) (P.faults store.new) (λ _ _ _. ⊥) (λ _. ⊥) (Unit {0})) }
+    ensures grows { NeverGrows P.Pages store.old store.new }
     ensures beside { Beside P.said P.fetches P.heap_fetches P.faults P.follows store.old store.new }
     ensures sound { OnOk result (P.spoiled store.new ≡ false) }
 {
@@ -106,6 +109,7 @@ pub fn end_unit<P: Store>(store: &mut P, kind: &mut Kind) -> Result<(), PageErro
         → MayHaveMoved P.Pages store.old store.new (with_seen session db).committed }
     ensures memory { result ≡ Err PageError.Memory → P.tells → (session : Session) → Keeps P.Pages store.old kind.old session → Unmade P.Pages store.old store.new }
     ensures cause { IfErr result (HasCause (P.faults store.old) (P.faults store.new) (λ _ _ _. ⊥) (λ _. ⊥) (Unit {0})) }
+    ensures grows { NeverGrows P.Pages store.old store.new }
     ensures beside { Beside P.said P.fetches P.heap_fetches P.faults P.follows store.old store.new }
     ensures sound { OnOk result (P.spoiled store.new ≡ false) }
 {

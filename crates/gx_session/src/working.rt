@@ -6,14 +6,14 @@ ghost use Rattle.gx_pages.specs.Footprints.{StaysQuiet};
 ghost use Rattle.gx_pages.specs.Pages.{Beside, HasCause};
 ghost use Rattle.gx_database.specs.Standing.{StandsFor};
 ghost use Rattle.gx_model.specs.Database.{Database};
-ghost use Rattle.gx_model.specs.Turns.{Session, TurnCosts};
-ghost use Rattle.gx_engine.specs.Engines.{IsIn, IsSettled, Executed, Stopped, Unmade, reply_of};
+ghost use Rattle.gx_model.specs.Turns.{Session, Turned, Turns, TurnCosts};
+ghost use Rattle.gx_engine.specs.Engines.{GrowsBy, IsIn, IsSettled, Executed, Stopped, Unmade, reply_of};
 ghost use Rattle.gx_engine.specs.Vacuumed.{IsVacuumed};
 ghost use Rattle.gx_parse.specs.Said.{Vacuum, said_of};
 ghost use Rattle.gx_parse.specs.Sound.{IsSound};
-ghost use Rattle.gx_step.specs.Doing.{AtMostCosts, DoneFor, IsOrdinary, LackRoomFor, StandForNone};
+ghost use Rattle.gx_step.specs.Doing.{AtMostCosts, AtMostGrows, DoneFor, IsOrdinary, LackRoomFor, StandForNone};
 ghost use Rattle.gx_statement.specs.Work.{IsWork};
-ghost use Rattle.gx_session.specs.Moves.{GoesOn, Keeps, Moved, MayHaveMoved, behind};
+ghost use Rattle.gx_session.specs.Moves.{GoesOn, Keeps, Moved, MayHaveMoved, NeverGrows, behind};
 ghost use Rattle.gx_session.specs.Readings.{ReadAs};
 ghost use Rattle.gx_session.specs.Tasks.{task_in};
 
@@ -51,6 +51,8 @@ pub fn work<P: Store, L: Ledger>(
         (λ at expected found. P.tells → (session : Session) → IsIn P.Pages store.old kind.old session → ⊥) (λ _. ⊥) (Unit {0})) }
     ensures most { P.tells → (session : Session) (text : List ℕ) → IsIn P.Pages store.old kind.old session → ReadAs text (said_of statement.now)
         → (n : ℕ) → TurnCosts session text n → steps.new ≤ steps.old + n }
+    ensures grows { P.tells → (session : Session) (text : List ℕ) → IsIn P.Pages store.old kind.old session → ReadAs text (said_of statement.now) → (turned : Turned) → Turns session text turned
+        → GrowsBy P.Pages store.old store.new turned.growth }
     ensures ordinary { IfOk result (λ reply. IsOrdinary (reply_of reply)) }
     ensures least { IsUnbroken result → P.heap_fetches store.new + steps.old ≤ P.heap_fetches store.old + steps.new }
     ensures goes { GoesOn P.Pages store.old store.new }
@@ -80,6 +82,7 @@ fn settle<P: Store>(store: &mut P, kind: &mut Kind, reply: Reply) -> Result<Repl
         → MayHaveMoved P.Pages store.old store.new (behind reply.fault session db).committed }
     ensures memory { result ≡ Err PageError.Memory → P.tells → (session : Session) → Keeps P.Pages store.old kind.old session → Unmade P.Pages store.old store.new }
     ensures cause { IfErr result (HasCause (P.faults store.old) (P.faults store.new) (λ _ _ _. ⊥) (λ _. ⊥) (Unit {0})) }
+    ensures grows { NeverGrows P.Pages store.old store.new }
     ensures beside { Beside P.said P.fetches P.heap_fetches P.faults P.follows store.old store.new }
     ensures sound { OnOk result (P.spoiled store.new ≡ false) }
 {
@@ -108,6 +111,7 @@ fn try_step<P: Pages, L: Ledger>(
     ensures ordinary { IsWork (said_of statement.now) → IfOk result (λ replied. IfSome replied (λ reply. IsOrdinary (reply_of reply))) }
     ensures cause { IfErr result (HasCause (P.faults pages.old) (P.faults pages.new)
         (λ at expected found. StandForNone P.Pages pages.old) (λ _. ⊥) (Unit {0})) }
+    ensures grows { AtMostGrows P.Pages pages.old pages.new (said_of statement.now) }
     ensures least { IsUnbroken result → P.heap_fetches pages.new + steps.old ≤ P.heap_fetches pages.old + steps.new }
     ensures most { AtMostCosts P.Pages pages.old (said_of statement.now) steps.old steps.new }
     ensures quiet { StaysQuiet P.Pages pages.old pages.new }

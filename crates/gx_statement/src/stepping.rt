@@ -7,7 +7,7 @@ ghost use Rattle.gx_pages.specs.Pages.{HasCause};
 ghost use Rattle.gx_engine.specs.Engines.{reply_of};
 ghost use Rattle.gx_parse.specs.Said.{said_of};
 ghost use Rattle.gx_parse.specs.Sound.{IsSound};
-ghost use Rattle.gx_step.specs.Doing.{AtMostCosts, DoneFor, IsOrdinary, LackRoomFor, StandForNone};
+ghost use Rattle.gx_step.specs.Doing.{AtMostCosts, AtMostGrows, DoneFor, IsOrdinary, LackRoomFor, StandForNone};
 ghost use Rattle.gx_statement.specs.Work.{IsWork};
 
 use gx_bytes::Bytes;
@@ -35,6 +35,7 @@ pub fn step<P: Pages, L: Ledger>(
     ensures cause { IfErr result (HasCause (P.faults pages.old) (P.faults pages.new)
         (λ at expected found. StandForNone P.Pages pages.old)
         (λ count. LackRoomFor P.Pages pages.old (said_of statement.now)) (Unit {0})) }
+    ensures grows { AtMostGrows P.Pages pages.old pages.new (said_of statement.now) }
     ensures least { IsUnbroken result → P.heap_fetches pages.new + steps.old ≤ P.heap_fetches pages.old + steps.new }
     ensures most { AtMostCosts P.Pages pages.old (said_of statement.now) steps.old steps.new }
     ensures quiet { StaysQuiet P.Pages pages.old pages.new }

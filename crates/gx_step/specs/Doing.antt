@@ -51,6 +51,10 @@ StandForNone g pages = g.tells → (db : Database) → StandsFor (g.map pages) d
 abbrev pub LackRoomFor : {P : Type 0} → Ghosts P → P → Said → Type 0
 LackRoomFor g pages said = g.tells → (db : Database) → StandsFor (g.map pages) db → LacksRoom (g.count pages) said db
 
+-- it adds no more pages than its step may, whether it ends with an error or not,
+abbrev pub AtMostGrows : {P : Type 0} → Ghosts P → P → P → Said → Type 0
+AtMostGrows g old new said = g.tells → (db : Database) → StandsFor (g.map old) db → (stepped : Stepped) → Steps db said stepped → g.count new ≤ g.count old + growth_in said stepped
+
 -- and there are no more ticks than it may cost.
 abbrev pub AtMostCosts : {P : Type 0} → Ghosts P → P → Said → ℕ → ℕ → Type 0
 AtMostCosts g pages said before now = g.tells → (db : Database) → StandsFor (g.map pages) db → (n : ℕ) → Costs db said n → now ≤ before + n

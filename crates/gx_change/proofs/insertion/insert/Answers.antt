@@ -18,7 +18,7 @@ use Rattle.gx_model.specs.declared.refusal.Refusal.{Refusal}
 use Rattle.gx_model.specs.Replies.{accepted, line}
 use Rattle.gx_database.specs.Heaps.{Stored}
 use Rattle.gx_change.specs.Appended.{AreNumbered}
-use Rattle.gx_change.proofs.Effects.{checks_at, insert_done, insert_lacks_room, missing, next_of, read_at, rows_are_few}
+use Rattle.gx_change.proofs.Effects.{checks_at, insert_done, insert_grows, insert_lacks_room, missing, next_of, read_at, rows_are_few}
 use Rattle.gx_step.proofs.Loading.{IsTold}
 use Rattle.gx_change.proofs.Frame.{catalog_there, has_table, heap_changed, table_heap}
 use Rattle.gx_step.proofs.Names.{to_model}
@@ -168,3 +168,33 @@ returns-in-Err-Fault-clause-done g c =
     (subst (λ (l : List (List Given)). Find (insert_checks (option_copied c.args.listed) l t.table) (Some c.in-Err-Fault.number)) c.as_slice.ensures
     (subst (λ (r : Refusal). Refuses (insert_checks (option_copied c.args.listed) c.as_slice.result.now t.table) r) c.in-Err-Fault.field-0-is refuses)))
     (rw c.in-Err-Fault.field-0-is at c.refused-in-Err-Fault.ensures.reply)
+
+pub returns-in_err-append_rows-in-Ok-clause-grows : goal.returns-in_err-append_rows-in-Ok-clause-grows
+returns-in_err-append_rows-in-Ok-clause-grows g c = λ tells db s stepped steps.
+    let t = has_table g.P.Pages c.tables_are_found.ensures.some c.load.new.pages db c.in_ok-catalog.catalog c.args.table.now c.in-Some.info.now (c.in_ok-catalog.ensures.opened tells db s) (sym c.in-Some.ensures) in
+    let read = read_at t.table c.as_slice-columns.result.now (option_copied c.args.listed) c.args.rows.now c.as_slice.result.now c.in-Ok.bytes (sym (c.as_slice-columns.ensures ∙ t.here.columns)) c.as_slice.ensures
+    (c.in-Ok.ensures t.table (sym (c.as_slice-columns.ensures ∙ t.here.columns)) (sym (next_of g.P.Pages c.load.new.pages db c.in_ok-catalog.catalog c.args.table.now c.in-Some.info.now t))) in
+    let long = ap (λ (l : List (List ℕ)). length l) c.as_slice-in-Ok.ensures in
+    insert_grows g.P.Pages c.one_turn.ensures.step c.load.new.pages db c.in_ok-catalog.catalog c.args.table.now c.in-Some.info.now t
+    (c.found_among.ensures.named c.args.table.now c.in_ok-catalog.catalog.tables c.in-Some.info.now (sym c.in-Some.ensures)).1 (option_copied c.args.listed) c.args.rows.now c.in-Ok.bytes read.0 read.1 stepped steps
+    (g.P.Pages.count c.args.pages.now) (g.P.Pages.count c.append_rows.new.pages) (let each = c.append_rows.ensures.by_each in omega (arith, each, c.in_ok-catalog.ensures.count, long))
+
+pub returns-in_err-set_heap-in-Ok-clause-grows : goal.returns-in_err-set_heap-in-Ok-clause-grows
+returns-in_err-set_heap-in-Ok-clause-grows g c = λ tells db s stepped steps.
+    let t = has_table g.P.Pages c.tables_are_found.ensures.some c.load.new.pages db c.in_ok-catalog.catalog c.args.table.now c.in-Some.info.now (c.in_ok-catalog.ensures.opened tells db s) (sym c.in-Some.ensures) in
+    let read = read_at t.table c.as_slice-columns.result.now (option_copied c.args.listed) c.args.rows.now c.as_slice.result.now c.in-Ok.bytes (sym (c.as_slice-columns.ensures ∙ t.here.columns)) c.as_slice.ensures
+    (c.in-Ok.ensures t.table (sym (c.as_slice-columns.ensures ∙ t.here.columns)) (sym (next_of g.P.Pages c.load.new.pages db c.in_ok-catalog.catalog c.args.table.now c.in-Some.info.now t))) in
+    let long = ap (λ (l : List (List ℕ)). length l) c.as_slice-in-Ok.ensures in
+    insert_grows g.P.Pages c.one_turn.ensures.step c.load.new.pages db c.in_ok-catalog.catalog c.args.table.now c.in-Some.info.now t
+    (c.found_among.ensures.named c.args.table.now c.in_ok-catalog.catalog.tables c.in-Some.info.now (sym c.in-Some.ensures)).1 (option_copied c.args.listed) c.args.rows.now c.in-Ok.bytes read.0 read.1 stepped steps
+    (g.P.Pages.count c.args.pages.now) (g.P.Pages.count c.set_heap.new.pages) (let each = c.in_ok-append_rows-in-Ok.ensures.by_each in omega (arith, c.set_heap.ensures.count, each, c.in_ok-catalog.ensures.count, long))
+
+pub returns-in-Ok-clause-grows : goal.returns-in-Ok-clause-grows
+returns-in-Ok-clause-grows g c = λ tells db s stepped steps.
+    let t = has_table g.P.Pages c.tables_are_found.ensures.some c.load.new.pages db c.in_ok-catalog.catalog c.args.table.now c.in-Some.info.now (c.in_ok-catalog.ensures.opened tells db s) (sym c.in-Some.ensures) in
+    let read = read_at t.table c.as_slice-columns.result.now (option_copied c.args.listed) c.args.rows.now c.as_slice.result.now c.in-Ok.bytes (sym (c.as_slice-columns.ensures ∙ t.here.columns)) c.as_slice.ensures
+    (c.in-Ok.ensures t.table (sym (c.as_slice-columns.ensures ∙ t.here.columns)) (sym (next_of g.P.Pages c.load.new.pages db c.in_ok-catalog.catalog c.args.table.now c.in-Some.info.now t))) in
+    let long = ap (λ (l : List (List ℕ)). length l) c.as_slice-in-Ok.ensures in
+    insert_grows g.P.Pages c.one_turn.ensures.step c.load.new.pages db c.in_ok-catalog.catalog c.args.table.now c.in-Some.info.now t
+    (c.found_among.ensures.named c.args.table.now c.in_ok-catalog.catalog.tables c.in-Some.info.now (sym c.in-Some.ensures)).1 (option_copied c.args.listed) c.args.rows.now c.in-Ok.bytes read.0 read.1 stepped steps
+    (g.P.Pages.count c.args.pages.now) (g.P.Pages.count c.set_heap.new.pages) (let each = c.in_ok-append_rows-in-Ok.ensures.by_each in omega (arith, c.in_ok-set_heap-in-Ok.ensures.count, each, c.in_ok-catalog.ensures.count, long))

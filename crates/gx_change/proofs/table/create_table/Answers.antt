@@ -15,7 +15,7 @@ use Rattle.gx_model.specs.declared.refusal.Refusal.{Refusal}
 use Rattle.gx_model.specs.Replies.{line}
 use Rattle.gx_model.specs.Steps.{column_of, new_table}
 use Rattle.gx_database.specs.Heaps.{Stored}
-use Rattle.gx_change.proofs.Effects.{as_many, create_done, create_lacks_room, present}
+use Rattle.gx_change.proofs.Effects.{as_many, create_done, create_grows, create_lacks_room, present}
 use Rattle.gx_step.proofs.Loading.{IsTold}
 use Rattle.gx_change.proofs.Frame.{catalog_there, heap_added}
 use Rattle.gx_change.proofs.Names.{made_info, made_table, room_left}
@@ -128,3 +128,36 @@ returns-in-Ok-clause-done g c =
     (c.in_ok-add_table-in-Ok.ensures.added tells) c.in_ok-add_table-in-Ok.ensures.tables c.in_ok-add_table-in-Ok.ensures.indexes
     (let one = c.in_ok-heap-in-Ok.ensures.by_one in let two = c.in_ok-add_table-in-Ok.ensures.by_one in omega (arith, one, two, c.in_ok-catalog.ensures.count)) reply is)
     c.told.ensures.reply
+
+pub returns-in_err-heap-in-Ok-clause-grows : goal.returns-in_err-heap-in-Ok-clause-grows
+returns-in_err-heap-in-Ok-clause-grows g c = λ tells db s stepped steps.
+    let size : (nat_le 256 (length c.in_ok-catalog.catalog.tables) || nat_lt 32 (length c.args.columns.now)) ≡ false =
+    subst (λ (k : ℕ). (nat_le 256 k || nat_lt 32 (length c.args.columns.now)) ≡ false) (ap (λ (l : List TableInfo). length l) c.tables.ensures.value)
+    (subst (λ (k : ℕ). (nat_le 256 (length c.tables.result.now) || nat_lt 32 k) ≡ false) c.len.ensures (sym c.are_too_many.ensures ∙ c.if-are_too_many.false)) in
+    let read = subst (λ (l : List ColumnWord). Find (new_column_checks [] l) None × (c.in-Ok.columns ≡ filter_map column_of l)) c.as_slice.ensures c.in-Ok.ensures in
+    let o = c.in_ok-catalog.ensures.opened tells db s in
+    let absent : table_named db c.args.name.now ≡ None = c.tables_are_found.ensures.none db c.in_ok-catalog.catalog.tables o.heaps c.args.name.now o.tables (sym c.in_default.ensures) in
+    create_grows g.P.Pages c.one_turn.ensures.step db c.args.name.now c.args.columns.now absent (as_many g.P.Pages c.load.new.pages db c.in_ok-catalog.catalog (length c.args.columns.now) false o size) read.0 stepped steps
+    (g.P.Pages.count c.args.pages.now) (g.P.Pages.count c.create.new.pages) (let one = c.create.ensures.by_one in omega (arith, one, c.in_ok-catalog.ensures.count))
+
+pub returns-in_err-add_table-in-Ok-clause-grows : goal.returns-in_err-add_table-in-Ok-clause-grows
+returns-in_err-add_table-in-Ok-clause-grows g c = λ tells db s stepped steps.
+    let size : (nat_le 256 (length c.in_ok-catalog.catalog.tables) || nat_lt 32 (length c.args.columns.now)) ≡ false =
+    subst (λ (k : ℕ). (nat_le 256 k || nat_lt 32 (length c.args.columns.now)) ≡ false) (ap (λ (l : List TableInfo). length l) c.tables.ensures.value)
+    (subst (λ (k : ℕ). (nat_le 256 (length c.tables.result.now) || nat_lt 32 k) ≡ false) c.len.ensures (sym c.are_too_many.ensures ∙ c.if-are_too_many.false)) in
+    let read = subst (λ (l : List ColumnWord). Find (new_column_checks [] l) None × (c.in-Ok.columns ≡ filter_map column_of l)) c.as_slice.ensures c.in-Ok.ensures in
+    let o = c.in_ok-catalog.ensures.opened tells db s in
+    let absent : table_named db c.args.name.now ≡ None = c.tables_are_found.ensures.none db c.in_ok-catalog.catalog.tables o.heaps c.args.name.now o.tables (sym c.in_default.ensures) in
+    create_grows g.P.Pages c.one_turn.ensures.step db c.args.name.now c.args.columns.now absent (as_many g.P.Pages c.load.new.pages db c.in_ok-catalog.catalog (length c.args.columns.now) false o size) read.0 stepped steps
+    (g.P.Pages.count c.args.pages.now) (g.P.Pages.count c.add_table.new.pages) (let one = c.in_ok-heap-in-Ok.ensures.by_one in let two = c.add_table.ensures.by_one in omega (arith, one, two, c.in_ok-catalog.ensures.count))
+
+pub returns-in-Ok-clause-grows : goal.returns-in-Ok-clause-grows
+returns-in-Ok-clause-grows g c = λ tells db s stepped steps.
+    let size : (nat_le 256 (length c.in_ok-catalog.catalog.tables) || nat_lt 32 (length c.args.columns.now)) ≡ false =
+    subst (λ (k : ℕ). (nat_le 256 k || nat_lt 32 (length c.args.columns.now)) ≡ false) (ap (λ (l : List TableInfo). length l) c.tables.ensures.value)
+    (subst (λ (k : ℕ). (nat_le 256 (length c.tables.result.now) || nat_lt 32 k) ≡ false) c.len.ensures (sym c.are_too_many.ensures ∙ c.if-are_too_many.false)) in
+    let read = subst (λ (l : List ColumnWord). Find (new_column_checks [] l) None × (c.in-Ok.columns ≡ filter_map column_of l)) c.as_slice.ensures c.in-Ok.ensures in
+    let o = c.in_ok-catalog.ensures.opened tells db s in
+    let absent : table_named db c.args.name.now ≡ None = c.tables_are_found.ensures.none db c.in_ok-catalog.catalog.tables o.heaps c.args.name.now o.tables (sym c.in_default.ensures) in
+    create_grows g.P.Pages c.one_turn.ensures.step db c.args.name.now c.args.columns.now absent (as_many g.P.Pages c.load.new.pages db c.in_ok-catalog.catalog (length c.args.columns.now) false o size) read.0 stepped steps
+    (g.P.Pages.count c.args.pages.now) (g.P.Pages.count c.add_table.new.pages) (let one = c.in_ok-heap-in-Ok.ensures.by_one in let two = c.in_ok-add_table-in-Ok.ensures.by_one in omega (arith, one, two, c.in_ok-catalog.ensures.count))

@@ -98,3 +98,6 @@ returns-in-RollBack-clause-settled g c = λ tells session is before idle. c.roll
 
 pub returns-in-Refuse-clause-settled : goal.returns-in-Refuse-clause-settled
 returns-in-Refuse-clause-settled g c = λ tells session is before idle. c.break_off.ensures.settled tells
+
+pub returns-in-Refuse-clause-grows : goal.returns-in-Refuse-clause-grows
+returns-in-Refuse-clause-grows g c = λ pages h. c.break_off.ensures.shrinks pages h.committed

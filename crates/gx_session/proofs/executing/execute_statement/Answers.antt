@@ -70,3 +70,6 @@ pub returns-in_default-clause-vacuumed : goal.returns-in_default-clause-vacuumed
 returns-in_default-clause-vacuumed g c = results.if_ok_then c.answer_task.result _ _
     (λ reply same none tells session table is is_vacuum. absurd (turning.vacuum_refused c.args.kind.now (said_of c.args.statement.now) table c.task_of-task.result is_vacuum c.task_of-task.ensures c.in_default.not-Work
     (ap (λ (r : Reply). r.fault) (sym same) ∙ none))) c.answer_task.ensures.reply
+
+pub returns-in_default-clause-grows : goal.returns-in_default-clause-grows
+returns-in_default-clause-grows g c = λ tells session text is read turned turns. moving.grows_by g.P.Pages c.args.store.now c.answer_task.new.store turned.growth c.answer_task.ensures.grows

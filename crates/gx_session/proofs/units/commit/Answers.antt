@@ -1,4 +1,4 @@
-use Rattle.std.proofs.Common.{Err, ◌≡◌, true, false, refl, sym, ◌∙◌, ap, arith}
+use Rattle.std.proofs.Common.{Err, ◌≡◌, inl, inr, true, false, refl, sym, ◌∙◌, ap, arith}
 use Rattle.std.proofs.lemmas.Bool.{false≢true}
 use Rattle.std.proofs.lemmas.Result.{err_from_is_err_and}
 use Rattle.gx_pages.proofs.Footprints.{cause_weaker}
@@ -69,3 +69,23 @@ pub returns-clause-map : goal.returns-clause-map
 returns-clause-map g c = λ tells session keeps.
     let gap = no_gap (g.P.Pages.committed c.args.store.now) session.committed keeps.committed in
     c.in_ok-commit.ensures.map tells ∙ c.in_ok-reserve.ensures.map tells gap
+
+-- How many pages there are.
+
+pub returns-in_err-reserve-clause-grows : goal.returns-in_err-reserve-clause-grows
+returns-in_err-reserve-clause-grows g c = moving.never_same g.P.Pages c.args.store.now c.reserve.new.self c.in_err-reserve.ensures.count c.in_err-reserve.ensures.committed.1
+
+pub returns-in_err-commit-clause-grows : goal.returns-in_err-commit-clause-grows
+returns-in_err-commit-clause-grows g c =
+    let r = c.in_ok-reserve.ensures in
+    let k = c.in_err-commit.ensures in
+    elim k.either [
+      | inl old ↦ moving.never_same g.P.Pages c.args.store.now c.commit.new.self (k.count ∙ r.count) (old.1 ∙ r.committed.1)
+      | inr made ↦ moving.never_more g.P.Pages c.args.store.now c.commit.new.self (g.P.Pages.count c.args.store.now) (k.count ∙ r.count) (made.1 ∙ r.count) (inl refl)
+    ]
+
+pub returns-clause-grows : goal.returns-clause-grows
+returns-clause-grows g c =
+    let r = c.in_ok-reserve.ensures in
+    let k = c.in_ok-commit.ensures in
+    moving.never_more g.P.Pages c.args.store.now c.commit.new.self (g.P.Pages.count c.args.store.now) (k.count ∙ r.count) (k.committed.1 ∙ r.count) (inl refl)

@@ -28,3 +28,6 @@ returns-in-Some-clause-settled g c = λ tells session keeps idle. c.break_off.en
 
 pub returns-in-Some-clause-map : goal.returns-in-Some-clause-map
 returns-in-Some-clause-map g c = λ none. absurd (results.never _ (sym c.in-Some.is ∙ none))
+
+pub returns-in-Some-clause-grows : goal.returns-in-Some-clause-grows
+returns-in-Some-clause-grows g c = λ pages h. c.break_off.ensures.shrinks pages h.committed

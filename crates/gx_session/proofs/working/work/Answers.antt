@@ -198,3 +198,23 @@ returns-in-Some-clause-vacuumed g c = results.if_ok_both c.settle.result _ _ _
 pub returns-in-None-clause-vacuumed : goal.returns-in-None-clause-vacuumed
 returns-in-None-clause-vacuumed g c = results.if_ok_then c.refused.result _ _
     (λ reply is_20 none. absurd (results.never 20 (ap (λ (r : Reply). r.fault) (sym is_20) ∙ none))) c.refused.ensures.reply
+
+-- How many pages there are.
+
+pub returns-in_err-done-clause-grows : goal.returns-in_err-done-clause-grows
+returns-in_err-done-clause-grows g c = λ tells session text is read turned turns.
+    works.grown_so g.P.Pages c.args.store.now c.begin_unit.new.store c.try_step.new.pages c.try_step.new.pages c.args.kind.now session text (said_of c.args.statement.now)
+    is (c.begin_unit.ensures.is_in tells session is) c.begin_unit.ensures.beside.said c.begin_unit.ensures.unmade c.in_err-done.ensures.quiet read c.requires.work
+    turned turns c.begin_unit.ensures.count c.begin_unit.ensures.committed_count c.in_err-done.ensures.grows tells (λ pages h. h)
+
+pub returns-in-Some-clause-grows : goal.returns-in-Some-clause-grows
+returns-in-Some-clause-grows g c = λ tells session text is read turned turns.
+    works.grown_so g.P.Pages c.args.store.now c.begin_unit.new.store c.try_step.new.pages c.settle.new.store c.args.kind.now session text (said_of c.args.statement.now)
+    is (c.begin_unit.ensures.is_in tells session is) c.begin_unit.ensures.beside.said c.begin_unit.ensures.unmade c.in_ok-done.ensures.quiet read c.requires.work
+    turned turns c.begin_unit.ensures.count c.begin_unit.ensures.committed_count c.in_ok-done.ensures.grows tells c.settle.ensures.grows
+
+pub returns-in-None-clause-grows : goal.returns-in-None-clause-grows
+returns-in-None-clause-grows g c = λ tells session text is read turned turns.
+    works.grown_so g.P.Pages c.args.store.now c.begin_unit.new.store c.try_step.new.pages c.break_off.new.store c.args.kind.now session text (said_of c.args.statement.now)
+    is (c.begin_unit.ensures.is_in tells session is) c.begin_unit.ensures.beside.said c.begin_unit.ensures.unmade c.in_ok-done.ensures.quiet read c.requires.work
+    turned turns c.begin_unit.ensures.count c.begin_unit.ensures.committed_count c.in_ok-done.ensures.grows tells (λ pages h. c.break_off.ensures.shrinks pages h.committed)

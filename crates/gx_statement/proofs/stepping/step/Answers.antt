@@ -2,7 +2,7 @@ use Rattle.std.proofs.Common.{◌≡◌, inr, ℕ, List, [], refl, sym, ◌∙�
 use Rattle.std.specs.Prelude.{option_copied, option_map}
 use Rattle.gx_engine.specs.Engines.{reply_of}
 use Rattle.gx_model.specs.Replies.{accepted, line}
-use Rattle.gx_model.specs.Steps.{Costs}
+use Rattle.gx_model.specs.Steps.{Costs, Steps}
 use Rattle.gx_parse.specs.Said as said
 use Rattle.gx_parse.specs.Said.{Said, said_of, query_of}
 use Rattle.gx_parse.specs.Trees.{tree_of}
@@ -91,3 +91,13 @@ returns-in-Vacuum-clause-most g c = λ tells db stands n cost.
     let At : Said → Type 0 = λ s. Costs db s n in
     let same : said_of c.args.statement.now ≡ said.Vacuum c.as_slice-in-Vacuum.result.now = cc (ap said_of c.in-Vacuum.is, c.as_slice-in-Vacuum.ensures) in
     c.vacuum.ensures.most tells db stands n (subst At same cost)
+
+pub returns-in-CreateTable-clause-grows : goal.returns-in-CreateTable-clause-grows
+returns-in-CreateTable-clause-grows g c =
+    let same : said_of c.args.statement.now ≡ said.CreateTable c.as_slice.result.now c.in-CreateTable.columns = cc (ap said_of c.in-CreateTable.is, c.as_slice.ensures) in
+    doing.grows_as g.P.Pages c.args.pages.now c.create_table.new.pages _ _ (sym same) c.create_table.ensures.grows
+
+pub returns-in-Insert-clause-grows : goal.returns-in-Insert-clause-grows
+returns-in-Insert-clause-grows g c =
+    let same : said_of c.args.statement.now ≡ said.Insert c.as_slice-in-Insert.result.now (option_copied c.as_ref-in-Insert.result) c.in-Insert.rows = cc (ap said_of c.in-Insert.is, c.as_slice-in-Insert.ensures, c.as_ref-in-Insert.ensures.value) in
+    doing.grows_as g.P.Pages c.args.pages.now c.insert.new.pages _ _ (sym same) c.insert.ensures.grows

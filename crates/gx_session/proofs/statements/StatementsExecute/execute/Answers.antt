@@ -103,3 +103,17 @@ pub returns-in-Refused-clause-vacuumed : goal.returns-in-Refused-clause-vacuumed
 returns-in-Refused-clause-vacuumed g c = λ none tells session text table is e vacuum.
     let Read : Reading → Type 0 = λ r. IsReading (reading_of text) r in
     absurd (pieces.not_refused (reading_of text) _ _ (subst Read c.in-Refused.is (c.in_ok-reading.ensures.read text e)) vacuum)
+
+-- How many pages there are.
+
+pub returns-in_err-reading-clause-grows : goal.returns-in_err-reading-clause-grows
+returns-in_err-reading-clause-grows g c = λ tells session text is e turned turns. moving.grows_by g.P.Pages c.args.store.now c.args.store.now turned.growth (λ pages h. h)
+
+pub returns-in-Says-clause-grows : goal.returns-in-Says-clause-grows
+returns-in-Says-clause-grows g c = λ tells session text is e.
+    let Read : Reading → Type 0 = λ r. IsReading (reading_of text) r in
+    c.execute_statement.ensures.grows tells session text is (subst Read c.in-Says.is (c.in_ok-reading.ensures.read text e))
+
+pub returns-in-Refused-clause-grows : goal.returns-in-Refused-clause-grows
+returns-in-Refused-clause-grows g c = λ tells session text is e turned turns.
+    moving.grows_by g.P.Pages c.args.store.now c.break_off.new.store turned.growth (λ pages h. c.break_off.ensures.shrinks pages h.committed)
