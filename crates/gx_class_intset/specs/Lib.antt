@@ -1,4 +1,5 @@
 pub mod IntervalLaws
+pub mod JoinLaws
 pub mod Intervals
 pub mod Keys
 pub mod Laws

@@ -5,6 +5,7 @@ mod class;
 mod interval;
 mod join;
 mod keys;
+mod laws;
 mod order;
 mod points;
 mod put;
@@ -14,3 +15,4 @@ mod tests_of_keys;
 
 pub use class::IntClass;
 pub use interval::{IntKey, Interval, Intervals};
+pub use laws::least_gaps_are_joined;

@@ -1,0 +1,3 @@
+mod PartFacts
+mod PrefixFacts
+mod ReadFacts

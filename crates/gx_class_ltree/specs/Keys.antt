@@ -6,8 +6,11 @@ use Rattle.std.specs.declared.cmp.Ordering.{Ordering}
 use Rattle.gx_bytes.specs.Hash.{hash_from}
 use Rattle.gx_ltree.specs.Path.{IsPath}
 use Rattle.gx_ltree.specs.Operators.{order}
+use Rattle.gx_sig.specs.BitSets.{both, IsSignature}
+use Rattle.gx_class_sets.specs.Signatures as signatures
 use Rattle.gx_class_sets.specs.Signatures.{sign}
 use Rattle.gx_class_ltree.specs.declared.key.Part.{Part}
+use Rattle.gx_class_ltree.specs.declared.key.LtreeKey.{LtreeKey}
 
 -- the first labels for which there is room: each takes two bytes more than it has
 abbrev pub front : ℕ → List (List ℕ) → List (List ℕ)
@@ -47,3 +50,28 @@ greater a b = if is_le (part_cmp b a) then a else b
 pub record IsPart (p : Part) : Type 0 where
   pub valid : IsPath p.path
   pub short : room_of p.path ≤ 600
+
+-- a valid key: the least part is at most the greatest
+pub record IsKey (n : ℕ) (k : LtreeKey n) : Type 0 where
+  pub low : IsPart k.low
+  pub high : IsPart k.high
+  pub rise : IsAtMost k.low k.high
+  pub sig : IsSignature n k.sig
+
+-- the key of one path
+abbrev pub leaf_key : (n : ℕ) → List (List ℕ) → LtreeKey n
+leaf_key n path = record { low = part path; high = part path; sig = labels_key n path }
+
+-- the key of all that both keys stand for
+abbrev pub union : {n : ℕ} → LtreeKey n → LtreeKey n → LtreeKey n
+union a b = record { low = lesser a.low b.low; high = greater a.high b.high; sig = both a.sig b.sig }
+
+-- a key reaches at least as far as another
+pub record IsOver {n : ℕ} (k l : LtreeKey n) : Type 0 where
+  pub low : IsAtMost k.low l.low
+  pub high : IsAtMost l.high k.high
+  pub sig : signatures.IsOver k.sig l.sig
+
+-- the bits that a union adds to a key's signature
+abbrev pub growth : (n : ℕ) → LtreeKey n → LtreeKey n → ℕ
+growth n key added = signatures.growth n key.sig added.sig

@@ -1,4 +1,7 @@
 pub mod Keys
-pub mod Laws
-pub mod Orders
 pub mod Tests
+pub mod Orders
+pub mod Laws
+pub mod Sorting
+pub mod KeyLaws
+pub mod Spellings
