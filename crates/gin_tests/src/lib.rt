@@ -3,3 +3,5 @@
 
 #[cfg(test)]
 mod posting;
+#[cfg(test)]
+mod trees;

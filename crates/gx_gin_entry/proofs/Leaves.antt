@@ -74,8 +74,11 @@ module _ {P : Type 0} (g : Ghosts P) (pages : P) (root : ℕ) (list : List Entry
   pub mid_are : AllByRecursion IsEntry parts.mid
   mid_are = feet_of.all_right IsEntry parts.left parts.mid (feet_of.all_left IsEntry (parts.left ++ parts.mid) parts.right all_are)
 
-  right_are : AllByRecursion IsEntry parts.right
+  pub right_are : AllByRecursion IsEntry parts.right
   right_are = feet_of.all_right IsEntry (parts.left ++ parts.mid) parts.right all_are
+
+  pub right_rise : AreRising parts.right
+  right_rise = rising_right (parts.left ++ parts.mid) parts.right all_rise
 
   pub mid_listed : AreListed was.items parts.mid
   mid_listed = record {
@@ -91,7 +94,7 @@ module _ {P : Type 0} (g : Ghosts P) (pages : P) (root : ℕ) (list : List Entry
   same_key : key_of (key_bytes key) ≡ key
   same_key = key_again key
 
-  left_before : AllByRecursion (λ e. IsBefore e.0 key) parts.left
+  pub left_before : AllByRecursion (λ e. IsBefore e.0 key) parts.left
   left_before =
       ⊎_elim
       (λ none. empty parts.left (sym cut.front_is ∙ none))
@@ -107,7 +110,7 @@ module _ {P : Type 0} (g : Ghosts P) (pages : P) (root : ℕ) (list : List Entry
       empty [] none = tt
       empty (x ∷ left) none = absurd (let e = ap (λ (l : List (List ℕ)). length l) none in omega (arith, e))
 
-  right_behind : AllByRecursion (λ e. IsBefore key e.0) parts.right
+  pub right_behind : AllByRecursion (λ e. IsBefore key e.0) parts.right
   right_behind =
       ⊎_elim
       (λ none. empty parts.right (sym cut.back_is ∙ none))

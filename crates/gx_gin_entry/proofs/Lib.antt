@@ -1,7 +1,9 @@
 pub mod Held
 pub mod Stops
 pub mod Edits
+pub mod Afters
 pub mod Removes
 pub mod Leaves
 pub mod Maps
+pub mod Nexts
 pub mod Once

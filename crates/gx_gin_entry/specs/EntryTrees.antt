@@ -107,6 +107,30 @@ abbrev pub IsFound : List Entry → List ℕ → Option (List ℕ) → Type 0
 IsFound list key None = AllByRecursion (λ entry. entry.0 ≢ key) list
 IsFound list key (Some posting) = (front : List Entry) × (back : List Entry) × (list ≡ front ++ (key, posting) ∷ back)
 
+-- the entry's key comes behind this one, where there is such a key
+abbrev pub IsAbove : Option (List ℕ) → Entry → Type 0
+IsAbove None entry = Unit {0}
+IsAbove (Some key) entry = IsBefore key entry.0
+
+-- the first of the entries above a key, or that none is above it
+abbrev pub IsNext : List Entry → Option (List ℕ) → Option Entry → Type 0
+IsNext list low None = AllByRecursion (λ entry. IsAbove low entry → ⊥) list
+IsNext list low (Some entry) = (front : List Entry) × (back : List Entry) × (list ≡ front ++ entry ∷ back) × AllByRecursion (λ other. IsAbove low other → ⊥) front × IsAbove low entry
+
+-- a key, or the least of all
+abbrev pub key_or_least : Option (List ℕ) → List ℕ
+key_or_least None = []
+key_or_least (Some key) = key
+
+-- From this place on all keys are above this one, and none before it is.
+pub record IsSplit (list : List Entry) (low : Option (List ℕ)) (place : ℕ) : Type 0 where
+  pub front : List Entry
+  pub back : List Entry
+  pub cut : list ≡ front ++ back
+  pub at : place ≡ length front
+  pub below : AllByRecursion (λ entry. IsAbove low entry → ⊥) front
+  pub above : AllByRecursion (IsAbove low) back
+
 -- the entry that a key has, where it has a posting
 abbrev pub entry_of : List ℕ → Option (List ℕ) → List Entry
 entry_of key None = []

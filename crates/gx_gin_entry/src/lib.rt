@@ -3,6 +3,7 @@
 
 mod keys;
 mod laws;
+mod next;
 mod places;
 mod putting;
 mod removing;

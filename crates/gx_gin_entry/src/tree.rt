@@ -1,14 +1,16 @@
 //! An entry tree.
 
 ghost use Rattle.std.specs.Prelude.{◌≡◌, ℕ, ◌+◌, ◌≤◌, List, [], ◌∷◌, length, None, IfOk, IfErr, true, false, OnOk};
+ghost use Rattle.std.specs.Option.{option_map};
 ghost use Rattle.gx_pages.specs.Footprints.{KeepsPages, StaysQuiet};
 ghost use Rattle.gx_pages.specs.Frees.{IsFreeList, IsFull};
 ghost use Rattle.gx_pages.specs.Pages.{HasCause};
 ghost use Rattle.gx_chain.specs.Chains.{IsSound, ListsNone};
 ghost use Rattle.gx_tree.specs.Finding.{LeafAt};
-ghost use Rattle.gx_gin_entry.specs.EntryTrees.{AreShorter, Entry, HasLonger, HoldsEntries, HoldsMap, HoldsNoEntries, HoldsNoMap, IsFound, IsPut, IsRemoved, by_key, key_bytes};
+ghost use Rattle.gx_gin_entry.specs.EntryTrees.{AreShorter, Entry, HasLonger, HoldsEntries, HoldsMap, HoldsNoEntries, HoldsNoMap, IsFound, IsNext, IsPut, IsRemoved, by_key, key_bytes};
 
 use crate::keys::Sought;
+use crate::next::{above_in, first_behind, sought_from};
 use crate::places::{broken, find_in, posting_in};
 use crate::putting::{Putting, replace_in};
 use crate::removing::without;
@@ -18,7 +20,7 @@ use gx_tree::{LeafPage, change_tree, create_tree, drop_tree, fetch_top, find_lea
 use std::alloc::Global;
 
 /// The kind of the pages of entry trees.
-const KIND: u8 = 5;
+pub const KIND: u8 = 5;
 
 /// An entry tree: its root page, whose number stays the same. Pages are of kind 5. At level 0 each item is the u16 length of a key,
 /// the key, and its posting, rising by key; above, an item is a u16 length, a key, which is at most every key below it and above
@@ -76,6 +78,32 @@ impl EntryTree {
     {
         let leaf = find_page(&Sought { key }, pages, self.page)?;
         posting_in(alloc, leaf.page, &leaf.slots, key)
+    }
+
+    /// The entry with the least key above this one, or with the least of all. None where there is none. A page a level is fetched, and
+    /// where no key on the page of level 0 is above it each page above level 0 once more, and pages of level 0 up to one with an entry.
+    pub fn after<P: Pages>(
+        &self,
+        alloc: Global,
+        pages: &mut P,
+        key: Option<&[u8]>,
+    ) -> Result<Option<(Bytes, Bytes)>, PageError>
+        ensures next { IfOk result (λ found. P.tells → (list : List Entry) (feet : List ℕ) → HoldsMap (P.map pages.old) (P.count pages.old) self.now.page list feet
+            → IsNext list (option_map (λ k. k.now) key.entry) (option_map (λ e. (e.0, e.1)) found)) }
+        ensures cause { IfErr result (HasCause (P.faults pages.old) (P.faults pages.new)
+            (λ at expected found. P.tells → HoldsNoMap (P.map pages.old) (P.count pages.old) self.now.page) (λ _. ⊥) (Unit {0})) }
+        ensures map { P.map pages.new ≡ P.map pages.old }
+        ensures count { P.count pages.new ≡ P.count pages.old }
+        ensures heap { IsSound result → P.heap_fetches pages.new ≡ P.heap_fetches pages.old }
+        ensures quiet { StaysQuiet P.Pages pages.old pages.new }
+    {
+        let sought = sought_from(key);
+        let leaf = find_page(&sought, pages, self.page)?;
+        let found = above_in(alloc, leaf.page, &leaf.slots, key)?;
+        match found {
+            Some(entry) => Ok(Some(entry)),
+            None => first_behind(alloc, pages, self.page, leaf.page),
+        }
     }
 
     /// Puts a posting at a key, which it has then. At most 60 pages more are taken, and none where the key is there with a posting

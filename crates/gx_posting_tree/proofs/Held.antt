@@ -12,7 +12,7 @@ use Rattle.gx_tree.specs.Trees.{Holds, HoldsBeside, IsOn, Tree, entries, footpri
 use Rattle.gx_tree.proofs.Nodes.{stand_leaves, slots_level}
 use Rattle.gx_tree.proofs.Dropped.{flat_tree}
 use Rattle.gx_posting_tree.specs.PostingTrees.{AreSpelled, HoldsList, HoldsRows}
-use Rattle.gx_posting_tree.proofs.Read.{flat_items}
+use Rattle.gx_tree.proofs.Walks.{flat_items}
 
 pub beside : {P : Type 0} (g : Ghosts P) (pages : P) (root : ℕ) (rows : List RowRef) (feet free : List ℕ) (held : HoldsRows g pages root rows feet free) → HoldsBeside g pages 6 root held.held.tree free
 beside g pages root rows feet free held = record {

@@ -1,5 +1,5 @@
 -- A posting tree: rows by rising numbers, in posting lists on the pages of a tree.
-use Rattle.std.specs.Prelude.{◌≡◌, ◌≢◌, ℕ, zero, suc, ◌^◌, ◌<◌, ◌≤◌, List, [], ◌∷◌, ◌++◌, length, Option, Some, None}
+use Rattle.std.specs.Prelude.{◌≡◌, ◌≢◌, ℕ, zero, suc, ◌^◌, ◌<◌, ◌≤◌, List, [], ◌∷◌, ◌++◌, length, map, take, Option, Some, None}
 use Rattle.std.specs.List.{AllByRecursion}
 use Rattle.gx_bytes.specs.Fields.{le64, of64}
 use Rattle.gx_words.specs.PageMap.{PageMap}
@@ -8,8 +8,9 @@ use Rattle.gx_pages.specs.declared.store.Pages.{Ghosts}
 use Rattle.gx_pages.specs.Frees.{IsApart, IsFreeList}
 use Rattle.gx_pages.specs.Rows.{AreBelow, IsRising}
 use Rattle.gx_posting.specs.Postings.{Spells}
+use Rattle.gx_slot.specs.Slots.{Slots}
 use Rattle.gx_tree.specs.Orders.{IsKeyed, Order}
-use Rattle.gx_tree.specs.Trees.{Holds, Tree, entries, footprint}
+use Rattle.gx_tree.specs.Trees.{Holds, Tree, entries, footprint, slots}
 
 -- Each item is a posting list of one row at least, in at most 512 bytes; one behind another they have these rows.
 abbrev pub AreSpelled : List (List ℕ) → List RowRef → Type 0
@@ -82,3 +83,10 @@ HoldsNoList map count root = (rows : List RowRef) (feet : List ℕ) → HoldsLis
 -- The pages hold none, or no free pages beside it.
 abbrev pub HoldsNoRows : {P : Type 0} → Ghosts P → P → ℕ → Type 0
 HoldsNoRows g pages root = (rows : List RowRef) (feet free : List ℕ) → HoldsRows g pages root rows feet free → ⊥
+
+-- A page of level 0 has the first rows, so many of them.
+pub record HasFirst (rows : List RowRef) (page : Slots) (count : ℕ) : Type 0 where
+  pub items : List (List ℕ)
+  pub is : page ≡ slots 6 0 (map (λ item. Some item) items)
+  pub spelled : AreSpelled items (take count rows)
+  pub within : count ≤ length rows

@@ -14,7 +14,7 @@ use gx_tree::{Change, Edit, Seek};
 use std::alloc::Global;
 
 /// A posting list has no more bytes.
-const LONGEST: usize = 512;
+pub const LONGEST: usize = 512;
 
 /// A row that is put behind all others, and its number as a key.
 #[derive(Drop)]

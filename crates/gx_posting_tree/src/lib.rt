@@ -2,7 +2,10 @@
 #![tactic(auto)]
 
 mod appending;
+mod filling;
+mod laws;
 mod reading;
 mod tree;
 
+pub use laws::one_list;
 pub use tree::PostingTree;

@@ -1,18 +1,20 @@
 //! A posting tree.
 
-ghost use Rattle.std.specs.Prelude.{◌≡◌, ℕ, ◌+◌, ◌≤◌, List, [], ◌∷◌, ◌++◌, length, IfOk, IfErr, OnOk};
+ghost use Rattle.std.specs.Prelude.{◌≡◌, ℕ, ◌+◌, ◌*◌, ◌≤◌, List, [], ◌∷◌, ◌++◌, length, IfOk, IfErr, OnOk};
 ghost use Rattle.gx_pages.specs.declared.row.RowRef.{RowRef};
 ghost use Rattle.gx_pages.specs.Footprints.{KeepsPages, StaysQuiet};
-ghost use Rattle.gx_pages.specs.Frees.{IsFull};
+ghost use Rattle.gx_pages.specs.Frees.{IsFreeList, IsFull};
 ghost use Rattle.gx_pages.specs.Pages.{HasCause};
-ghost use Rattle.gx_pages.specs.Rows.{AreBelow};
-ghost use Rattle.gx_chain.specs.Chains.{IsSound};
+ghost use Rattle.gx_pages.specs.Rows.{AreBelow, IsRising};
+ghost use Rattle.gx_posting.specs.Postings.{entries_bytes};
+ghost use Rattle.gx_chain.specs.Chains.{IsSound, ListsNone};
 ghost use Rattle.gx_posting_tree.specs.PostingTrees.{HoldsList, HoldsRows, HoldsNoList, HoldsNoRows};
 
 use crate::appending::Appending;
+use crate::filling::fill_page;
 use crate::reading::{KIND, leaf_rows, push_rows};
 use gx_pages::{Bitmap, PageError, Pages, RowRef};
-use gx_tree::{change_tree, drop_tree, fetch_top, survey};
+use gx_tree::{change_tree, create_leaf, drop_tree, fetch_top, survey};
 use std::alloc::Global;
 
 /// A posting tree: its root page, whose number stays the same. Pages are of kind 6. At level 0 each item is a posting list of at
@@ -24,6 +26,53 @@ pub struct PostingTree {
 }
 
 impl PostingTree {
+    /// A posting tree of these rows. Where their list would have at most 1,024 bytes, it takes one page.
+    pub fn create<P: Pages>(
+        alloc: Global,
+        pages: &mut P,
+        rows: &Bitmap,
+    ) -> Result<PostingTree, PageError>
+        ensures made { IfOk result (λ made. P.tells → (free : List ℕ) → IsFreeList (P.map pages.old) (P.count pages.old) free
+            → (feet : List ℕ) × (rest : List ℕ) × HoldsRows P.Pages pages.new made.page rows.now feet rest × KeepsPages P.Pages pages.old pages.new [] free feet rest) }
+        ensures grows { P.count pages.old ≤ P.count pages.new }
+        ensures by_one { length (entries_bytes 0 rows.now) ≤ 1024 → P.count pages.new ≤ P.count pages.old + 1 }
+        ensures by { P.count pages.new ≤ P.count pages.old + (60 * length rows.now + 1) }
+        ensures cause { IfErr result (HasCause (P.faults pages.old) (P.faults pages.new)
+            (λ at expected found. P.tells → ListsNone P.Pages pages.old) (IsFull P.tells (P.map pages.new) (P.count pages.new)) (Unit {0})) }
+        ensures heap { IsSound result → P.heap_fetches pages.new ≡ P.heap_fetches pages.old }
+        ensures quiet { StaysQuiet P.Pages pages.old pages.new }
+    {
+        let filled = fill_page(alloc, rows.as_slice())?;
+        let page = create_leaf(pages, &filled.slots)?;
+        let mut made = PostingTree { page };
+        made.insert_all(alloc, pages, &rows.as_slice()[filled.count..])?;
+        Ok(made)
+    }
+
+    /// Adds rows, whose numbers rise above all that stand.
+    fn insert_all<P: Pages>(
+        &mut self,
+        alloc: Global,
+        pages: &mut P,
+        rows: &[RowRef],
+    ) -> Result<(), PageError>
+        ensures inserted { OnOk result (P.tells → (list : List RowRef) (feet free : List ℕ) → HoldsRows P.Pages pages.old self.old.page list feet free → IsRising (list ++ rows.now)
+            → (later : List ℕ) × (rest : List ℕ) × HoldsRows P.Pages pages.new self.old.page (list ++ rows.now) later rest × KeepsPages P.Pages pages.old pages.new feet free later rest) }
+        ensures same { self.new ≡ self.old }
+        ensures grows { P.count pages.old ≤ P.count pages.new }
+        ensures by { P.count pages.new ≤ P.count pages.old + 60 * length rows.now }
+        ensures cause { IfErr result (HasCause (P.faults pages.old) (P.faults pages.new)
+            (λ at expected found. P.tells → (list : List RowRef) (feet free : List ℕ) → HoldsRows P.Pages pages.old self.old.page list feet free → IsRising (list ++ rows.now) → ⊥)
+            (IsFull P.tells (P.map pages.new) (P.count pages.new)) (Unit {0})) }
+        ensures heap { IsSound result → P.heap_fetches pages.new ≡ P.heap_fetches pages.old }
+        ensures quiet { StaysQuiet P.Pages pages.old pages.new }
+    {
+        for row in rows {
+            self.insert(alloc, pages, *row)?;
+        }
+        Ok(())
+    }
+
     /// The posting tree below this root page.
     pub fn at(root: u64) -> PostingTree
         ensures { result.page ≡ root }

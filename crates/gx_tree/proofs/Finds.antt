@@ -12,11 +12,12 @@ use Rattle.gx_pages.proofs.Footprints as feet
 use Rattle.gx_slot.specs.Slots.{Fits, Slots, spelling}
 use Rattle.gx_tree.specs.Finding.{LeafAt, Later, Stands}
 use Rattle.gx_tree.specs.Orders.{AtMost, IsFrom, IsKeyed, IsLawful, IsUnder, Keys, Order, next}
-use Rattle.gx_tree.specs.Trees.{HaveTwo, IsOn, Node, Stand, children, entries_of, link, named, page_of, pages_of, slots, slots_of}
+use Rattle.gx_tree.specs.Trees.{HaveTwo, IsOn, Leaf, Node, Stand, children, entries_of, items_of, leaves_of, link, named, page_of, pages_of, slots, slots_of}
 use Rattle.gx_tree.proofs.Entries.{keyed_entries, kids_entries}
 use Rattle.gx_tree.proofs.Keyed.{KeysAt, keys_at, keys_changed, keys_from, under_end}
 use Rattle.gx_tree.proofs.Kids.{entries_append, kid_times, kids, kids_append, kids_of, kids_times, node_times, stand_append, stand_left, stand_right, two_append, two_left, two_right}
-use Rattle.gx_tree.proofs.Lists.{permuted}
+use Rattle.gx_tree.proofs.Lists.{flat_map_append, permuted}
+use Rattle.gx_tree.proofs.Nodes.{leaves_append}
 use Rattle.gx_tree.proofs.Staying.{stand_stays}
 use Rattle.gx_tree.proofs.Widening.{all_times, times_all}
 
@@ -33,6 +34,11 @@ leaf_at g pages order own kind page least end node found stands is = record {
   are = stands.keyed;
   inside = λ n outside same. outside.0 (same ∙ sym stands.begins);
   cut = refl;
+  prior = [];
+  others = [];
+  row = ap (λ (n : ℕ). (n, node.1) ∷ []) stands.begins;
+  front_is = refl;
+  back_is = refl;
   before = inl refl;
   behind = inl refl;
   changed = λ items are. record {
@@ -101,6 +107,16 @@ module _ {P : Type 0} (g : Ghosts P) (order : Order) (law : IsLawful order) (own
   node_items = ap (λ (l : List (Node level)). entries_of level l) kids_cut ∙ entries_append level (kids level front) (item.1 ∷ kids level back)
       ∙ ap (λ (l : List (List ℕ)). front_items ++ l) (entries_append level (item.1 ∷ []) (kids level back))
 
+  abbrev front_leaves : List Leaf
+  front_leaves = leaves_of level (kids level front)
+
+  abbrev back_leaves : List Leaf
+  back_leaves = leaves_of level (kids level back)
+
+  node_leaves : leaves_of (suc level) (node ∷ []) ≡ front_leaves ++ (leaves_of level (item.1 ∷ []) ++ back_leaves)
+  node_leaves = ap (λ (l : List (Node level)). leaves_of level l) kids_cut ∙ leaves_append level (kids level front) (item.1 ∷ kids level back)
+      ∙ ap (λ (l : List Leaf). front_leaves ++ l) (leaves_append level (item.1 ∷ []) (kids level back))
+
   front_in : order.AreIn least (Some item.0) front_items
   front_in = kids_entries order law level least (Some item.0) front at.before
 
@@ -160,6 +176,9 @@ module _ {P : Type 0} (g : Ghosts P) (order : Order) (law : IsLawful order) (own
     module _ (found_page : ℕ) (found : Slots) (leaf : LeafAt g pages order own kind level (Some item.0) (next end back) item.1 found_page found) where
       regroup : (a b c d e : List (List ℕ)) → a ++ ((b ++ c ++ d) ++ e) ≡ (a ++ b) ++ c ++ (d ++ e)
       regroup a b c d e = simp append_assoc
+
+      regroup_leaves : (a b : List Leaf) (c : Leaf) (d e : List Leaf) → a ++ ((b ++ c ∷ d) ++ e) ≡ (a ++ b) ++ c ∷ (d ++ e)
+      regroup_leaves a b c d e = simp append_assoc
 
       item_outside : (n : ℕ) → feet.times n (pages_of level (item.1 ∷ [])) ≡ 0 → n ≢ found_page
       item_outside n none = leaf.inside n (feet.none_outside n (pages_of level (item.1 ∷ [])) none)
@@ -249,6 +268,11 @@ module _ {P : Type 0} (g : Ghosts P) (order : Order) (law : IsLawful order) (own
         are = leaf.are;
         inside = inside_all;
         cut = node_items ∙ ap (λ (l : List (List ℕ)). front_items ++ (l ++ back_items)) leaf.cut ∙ regroup front_items leaf.front leaf.leaf leaf.back back_items;
+        prior = front_leaves ++ leaf.prior;
+        others = leaf.others ++ back_leaves;
+        row = node_leaves ∙ ap (λ (l : List Leaf). front_leaves ++ (l ++ back_leaves)) leaf.row ∙ regroup_leaves front_leaves leaf.prior (found_page, leaf.leaf) leaf.others back_leaves;
+        front_is = ap (λ (l : List (List ℕ)). front_items ++ l) leaf.front_is ∙ sym (flat_map_append (λ (l : Leaf). l.1) front_leaves leaf.prior);
+        back_is = ap (λ (l : List (List ℕ)). l ++ back_items) leaf.back_is ∙ sym (flat_map_append (λ (l : Leaf). l.1) leaf.others back_leaves);
         before = before_all leaf.front leaf.before;
         behind = back_all back at.behind before leaf.back leaf.behind;
         changed = changed_all;

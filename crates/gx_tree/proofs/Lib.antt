@@ -13,6 +13,7 @@ pub mod Linked
 pub mod Lists
 pub mod Making
 pub mod Nodes
+pub mod Once
 pub mod Raises
 pub mod Recursion
 pub mod Relinks
@@ -22,6 +23,7 @@ pub mod Seeks
 pub mod Staying
 pub mod Tops
 pub mod Upper
+pub mod Walks
 pub mod Weights
 pub mod Wholes
 pub mod Widening

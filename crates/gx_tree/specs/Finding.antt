@@ -8,7 +8,7 @@ use Rattle.gx_pages.specs.Footprints.{IsOutside, KeepsPages}
 use Rattle.gx_pages.specs.Frees.{IsApart}
 use Rattle.gx_slot.specs.Slots.{Slots}
 use Rattle.gx_tree.specs.Orders.{AtMost, IsKeyed, Order}
-use Rattle.gx_tree.specs.Trees.{HaveTwo, HoldsBeside, IsOn, Node, Stand, Tree, entries, entries_of, footprint, page_of, pages_of, slots_of}
+use Rattle.gx_tree.specs.Trees.{HaveTwo, HoldsBeside, IsOn, Leaf, Node, Stand, Tree, entries, entries_of, footprint, items_of, leaves_of, page_of, pages_of, slots_of}
 
 -- A page stands with all below it, and its keys rise.
 pub record Stands {P : Type 0} (g : Ghosts P) (pages : P) (order : Order) (kind level page : ℕ) (least end : Option (List ℕ)) (node : Node level) : Type 0 where
@@ -29,7 +29,7 @@ pub record Later (order : Order) (now : PageMap) (kind level : ℕ) (least end :
   pub has : entries_of level (later ∷ []) ≡ front ++ items ++ back
   pub stand : (after : PageMap) → ((n : ℕ) → n ≢ page → after n ≡ now n) → IsOn after kind 0 (page, items) → Stand after kind level (later ∷ [])
 
--- The page of level 0 where a key belongs: all items before it are before the key, and all behind it are behind the key.
+-- The page of level 0 where a key belongs, between those before it and those behind it: all items before it are before the key, and all behind it are behind the key.
 pub record LeafAt {P : Type 0} (g : Ghosts P) (pages : P) (order : Order) (own : List ℕ) (kind level : ℕ) (least end : Option (List ℕ)) (node : Node level) (page : ℕ) (slots : Slots) : Type 0 where
   pub leaf : List (List ℕ)
   pub from : Option (List ℕ)
@@ -41,6 +41,11 @@ pub record LeafAt {P : Type 0} (g : Ghosts P) (pages : P) (order : Order) (own :
   pub are : order.AreIn from to leaf
   pub inside : (n : ℕ) → IsOutside n (pages_of level (node ∷ [])) → n ≢ page
   pub cut : entries_of level (node ∷ []) ≡ front ++ leaf ++ back
+  pub prior : List Leaf
+  pub others : List Leaf
+  pub row : leaves_of level (node ∷ []) ≡ prior ++ (page, leaf) ∷ others
+  pub front_is : front ≡ items_of prior
+  pub back_is : back ≡ items_of others
   pub before : (front ≡ []) ⊎ ((key : List ℕ) × AtMost order key own × order.AreIn least (Some key) front)
   pub behind : (back ≡ []) ⊎ ((key : List ℕ) × order.Less own key × order.AreIn (Some key) end back)
   pub changed : (items : List (List ℕ)) → order.AreIn from to items → Later order (g.map pages) kind level least end page node front back items

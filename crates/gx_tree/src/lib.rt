@@ -20,7 +20,7 @@ mod walk;
 mod writing;
 
 pub use choosing::{choose, key_at};
-pub use create::create_tree;
+pub use create::{create_leaf, create_tree};
 pub use drops::drop_tree;
 pub use fetching::{fetch_level, fetch_top};
 pub use laws::tree_stays;

@@ -6,7 +6,8 @@ use Rattle.gx_pages.proofs.Footprints.{cause_weaker, quiet_join, quiet_none}
 use Rattle.gx_tree.specs.Trees.{Leaf, items_of}
 use Rattle.gx_tree.proofs.Lists.{at_place}
 use Rattle.gx_tree.proofs.Causes.{broken_or}
-use Rattle.gx_posting_tree.proofs.Read.{leaf, leaf_found, leaf_sound, reads_all, reads_leaf, reads_leaf_refused, reads_none, leaves_end}
+use Rattle.gx_tree.proofs.Walks.{leaf, leaf_found, leaf_sound, leaves_end}
+use Rattle.gx_posting_tree.proofs.Read.{reads_all, reads_leaf, reads_leaf_refused, reads_none}
 use Rattle.gx_posting_tree.proofs.reading.leaf_rows.Goals as goal
 
 here : (list : List ℕ) (i : ℕ) (below : i < length list) → get_or list i (get_or list i 0) ≡ get_or list i 0
