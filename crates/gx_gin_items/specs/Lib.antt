@@ -1,0 +1,5 @@
+pub mod Items
+pub mod Tests
+pub mod ListLaws
+pub mod FlagLaws
+pub mod ShortLaws

@@ -1,0 +1,3 @@
+pub mod Tests
+pub mod ItemLaws
+pub mod Laws
