@@ -1,20 +1,42 @@
 //! Worked texts, boundary values, and each call once.
 
+use crate::json::nested;
 use gx_bytes::{Bytes, NoMemory, ValueError};
 use gx_hstore::Hstore;
 use std::alloc::Global;
 use std::test::Fail;
 
-fn printed(alloc: Global, hstore: &Hstore) -> Result<Bytes, NoMemory> {
+/// The printed text of a copy of the map, and the bytes.
+fn written(alloc: Global, hstore: &Hstore) -> Result<(Bytes, Bytes), NoMemory> {
     let mut text = Bytes::new(alloc);
-    hstore.print(&mut text)?;
-    Ok(text)
-}
-
-fn encoded(alloc: Global, hstore: &Hstore) -> Result<Bytes, NoMemory> {
+    hstore.copy(alloc)?.print(&mut text)?;
     let mut bytes = Bytes::new(alloc);
     hstore.encode(&mut bytes)?;
-    Ok(bytes)
+    Ok((text, bytes))
+}
+
+/// The printed text of the map of a text, and its bytes.
+fn read(alloc: Global, text: &str) -> Result<(Bytes, Bytes), ValueError> {
+    let hstore = Hstore::read(alloc, text)?;
+    match written(alloc, &hstore) {
+        Ok(written) => Ok(written),
+        Err(_) => Err(ValueError::Memory),
+    }
+}
+
+/// The printed text of the map of these bytes, and its bytes.
+fn decoded(alloc: Global, bytes: &[u8]) -> Result<Option<(Bytes, Bytes)>, NoMemory> {
+    match Hstore::decode(alloc, bytes)? {
+        Some(hstore) => Ok(Some(written(alloc, &hstore)?)),
+        None => Ok(None),
+    }
+}
+
+fn is_printed_so(alloc: Global, text: &str, want: &str) -> bool {
+    match read(alloc, text) {
+        Ok((printed, _)) => printed.as_slice() == want.as_bytes(),
+        Err(_) => false,
+    }
 }
 
 /// A text, and the printed text of its map.
@@ -47,18 +69,11 @@ const PRINTED: [(&'static str, &'static str); 19] = [
 ];
 
 #[test]
-fn texts_and_their_printed_form(rt: HostRuntime) -> Result<(), Fail> {
-    for (text, want) in PRINTED {
-        let hstore = Hstore::read(rt.alloc(), text)?;
-        let found = printed(rt.alloc(), &hstore)?;
-        assert!(rt; found.as_slice() == want.as_bytes(), "at {text}");
-        let again = Hstore::read(rt.alloc(), want)?;
-        assert!(rt;
-            again.contains(&hstore) && hstore.contains(&again),
-            "at {text}"
-        );
+fn texts_and_their_printed_form(rt: HostRuntime) {
+    for (text, want) in &PRINTED {
+        assert!(rt; is_printed_so(rt.alloc(), text, want), "at {text}");
+        assert!(rt; is_printed_so(rt.alloc(), want, want), "at {text}");
     }
-    Ok(())
 }
 
 /// Texts that are no map.
@@ -89,18 +104,17 @@ const REFUSED: [&'static str; 23] = [
 ];
 
 #[test]
-fn texts_that_are_refused(rt: HostRuntime) -> Result<(), Fail> {
-    for text in REFUSED {
+fn texts_that_are_refused(rt: HostRuntime) {
+    for text in &REFUSED {
         assert!(rt;
             Hstore::read(rt.alloc(), text).err() == Some(ValueError::NoValue),
             "at {text}"
         );
     }
-    Ok(())
 }
 
 /// Two maps, and whether the first contains the second.
-const CONTAINED: [(&'static str, &'static str, bool); 13] = [
+const CONTAINED: [(&'static str, &'static str, bool); 15] = [
     ("a=>1,b=>NULL", "a=>1", true),
     ("a=>1,b=>NULL", "b=>NULL", true),
     ("a=>1,b=>NULL", "a=>NULL", false),
@@ -114,26 +128,65 @@ const CONTAINED: [(&'static str, &'static str, bool); 13] = [
     ("aa=>1,b=>2,c=>3", "aa=>1,c=>3", true),
     ("", "a=>1", false),
     ("", "", true),
+    ("k4=>v14", "k4=>v14", true),
+    ("k4=>v14", "k4=>v4", false),
 ];
 
+fn contains(alloc: Global, left: &str, right: &str) -> Result<bool, ValueError> {
+    let a = Hstore::read(alloc, left)?;
+    let b = Hstore::read(alloc, right)?;
+    Ok(a.contains(&b))
+}
+
+/// A map.
+const THREE: &'static str = "aa=>1,b=>NULL,\"\"=>2";
+
+/// Thirty-two keys.
+const LETTERS: &'static str =
+    "a=>1,b=>1,c=>1,d=>1,e=>1,f=>1,g=>1,h=>1,i=>1,j=>1,k=>1,l=>1,m=>1,n=>1,o=>1,p=>1,q=>1,r=>1,s=>1,\
+    t=>1,u=>1,v=>1,w=>1,x=>1,y=>1,z=>1,{=>1,|=>1,}=>1,~=>1,_=>1,@=>1";
+
+/// A map, more pairs behind it, a key, the number of keys, and whether the key is among them.
+const HELD: [(&'static str, &'static str, &'static str, usize, bool); 14] = [
+    (THREE, "", "aa", 3, true),
+    (THREE, "", "b", 3, true),
+    (THREE, "", "", 3, true),
+    (THREE, "", "a", 3, false),
+    (THREE, "", "bb", 3, false),
+    (r#"guest=>"Ada L.", vip=>NULL"#, "", "guest", 2, true),
+    (r#"guest=>"Ada L.", vip=>NULL"#, "", "vip", 2, true),
+    ("guest=>Bo", "", "guest", 1, true),
+    ("guest=>Bo", "", "vip", 1, false),
+    ("k3=>v13", "", "k3", 1, true),
+    ("k4=>v14", "", "k3", 1, false),
+    (LETTERS, "", "zz", 32, false),
+    (LETTERS, ",zz=>1", "zz", 33, true),
+    (LETTERS, ",q1=>1", "zz", 33, false),
+];
+
+/// How many keys the map of both texts has, and whether the key is among them.
+fn has(alloc: Global, text: &str, more: &str, key: &str) -> Result<(usize, bool), ValueError> {
+    let Ok(whole) = format!(in alloc; "{text}{more}") else {
+        return Err(ValueError::Memory);
+    };
+    let hstore = Hstore::read(alloc, whole.as_str())?;
+    Ok((hstore.count(), hstore.has(key.as_bytes())))
+}
+
 #[test]
-fn keys_and_maps_that_are_contained(rt: HostRuntime) -> Result<(), Fail> {
-    for (left, right, contained) in CONTAINED {
-        let a = Hstore::read(rt.alloc(), left)?;
-        let b = Hstore::read(rt.alloc(), right)?;
-        assert!(rt; a.contains(&b) == contained, "{left} and {right}");
+fn keys_and_maps_that_are_contained(rt: HostRuntime) {
+    for (left, right, want) in &CONTAINED {
+        assert!(rt;
+            contains(rt.alloc(), left, right) == Ok(*want),
+            "{left} and {right}"
+        );
     }
-    let hstore = Hstore::read(rt.alloc(), "aa=>1,b=>NULL,\"\"=>2")?;
-    for (key, there) in [
-        ("aa", true),
-        ("b", true),
-        ("", true),
-        ("a", false),
-        ("bb", false),
-    ] {
-        assert!(rt; hstore.has(key.as_bytes()) == there, "at {key}");
+    for (text, more, key, count, want) in &HELD {
+        assert!(rt;
+            has(rt.alloc(), text, more, key) == Ok((*count, *want)),
+            "{key} in {text}"
+        );
     }
-    Ok(())
 }
 
 /// Keys, and whether the map has all of them and some.
@@ -147,82 +200,45 @@ const KEYS: [(&'static [&'static str], bool, bool); 7] = [
     (&[], true, false),
 ];
 
-#[test]
-fn all_and_some_keys(rt: HostRuntime) -> Result<(), Fail> {
-    let hstore = Hstore::read(rt.alloc(), "aa=>1,b=>NULL,\"\"=>2")?;
-    for (keys, all, some) in KEYS {
-        let mut bytes = Vec::new(rt.alloc());
-        for key in keys {
-            bytes.push(Bytes::from_slice(rt.alloc(), key.as_bytes())?)?;
-        }
-        assert!(rt; hstore.has_all(&bytes) == all, "all of {keys:?}");
-        assert!(rt; hstore.has_any(&bytes) == some, "some of {keys:?}");
+pub fn keys_of(alloc: Global, words: &[&str]) -> Result<Vec<Bytes>, NoMemory> {
+    let mut keys = Vec::new(alloc);
+    for word in words {
+        keys.push(Bytes::from_slice(alloc, word.as_bytes())?)?;
     }
-    let copy = hstore.copy(rt.alloc())?;
-    let first = printed(rt.alloc(), &hstore)?;
-    let second = printed(rt.alloc(), &copy)?;
-    assert_eq!(rt; first.as_slice(), second.as_slice());
-    Ok(())
+    Ok(keys)
+}
+
+/// Whether the map of three pairs has all of the keys, and some.
+fn keys_held(alloc: Global, words: &[&str]) -> Result<(bool, bool), ValueError> {
+    let hstore = Hstore::read(alloc, THREE)?;
+    match keys_of(alloc, words) {
+        Ok(keys) => Ok((hstore.has_all(&keys), hstore.has_any(&keys))),
+        Err(_) => Err(ValueError::Memory),
+    }
+}
+
+#[test]
+fn all_and_some_keys(rt: HostRuntime) {
+    for (words, all, some) in &KEYS {
+        assert!(rt;
+            keys_held(rt.alloc(), words) == Ok((*all, *some)),
+            "at {words:?}"
+        );
+    }
 }
 
 #[test]
 fn pairs_in_printed_order(rt: HostRuntime) -> Result<(), Fail> {
     let hstore = Hstore::read(rt.alloc(), "bb=>1, z=>NULL, a=>2")?;
-    assert_eq!(rt; hstore.count(), 3);
-    assert!(rt; hstore.pair(0) == Some((b"a".as_slice(), Some(b"2".as_slice()))));
-    assert!(rt; hstore.pair(1) == Some((b"z".as_slice(), None)));
-    assert!(rt; hstore.pair(2) == Some((b"bb".as_slice(), Some(b"1".as_slice()))));
-    assert!(rt; hstore.pair(3).is_none());
-    Ok(())
-}
-
-/// A map, a key, and whether the map has it.
-const WORKED: [(&'static str, &'static str, bool); 6] = [
-    (r#"guest=>"Ada L.", vip=>NULL"#, "guest", true),
-    (r#"guest=>"Ada L.", vip=>NULL"#, "vip", true),
-    ("guest=>Bo", "guest", true),
-    ("guest=>Bo", "vip", false),
-    ("k3=>v13", "k3", true),
-    ("k4=>v14", "k3", false),
-];
-
-#[test]
-fn keys_of_worked_rows(rt: HostRuntime) -> Result<(), Fail> {
-    let letters =
-        "a=>1,b=>1,c=>1,d=>1,e=>1,f=>1,g=>1,h=>1,i=>1,j=>1,k=>1,l=>1,m=>1,n=>1,o=>1,p=>1,q=>1,r=>1,s=>1,\
-        t=>1,u=>1,v=>1,w=>1,x=>1,y=>1,z=>1,{=>1,|=>1,}=>1,~=>1,_=>1,@=>1";
-    for (more, count, there) in [("", 32, false), (",zz=>1", 33, true), (",q1=>1", 33, false)] {
-        let text = format!(in rt.alloc(); "{letters}{more}")?;
-        let hstore = Hstore::read(rt.alloc(), text.as_str())?;
-        assert_eq!(rt; hstore.count(), count);
-        assert_eq!(rt; hstore.has(b"zz"), there);
+    let wants = [
+        Some((b"a".as_slice(), Some(b"2".as_slice()))),
+        Some((b"z".as_slice(), None)),
+        Some((b"bb".as_slice(), Some(b"1".as_slice()))),
+        None,
+    ];
+    for (at, want) in wants.iter().enumerate() {
+        assert!(rt; hstore.pair(at) == *want, "at {at}");
     }
-    for (text, key, there) in WORKED {
-        let hstore = Hstore::read(rt.alloc(), text)?;
-        assert_eq!(rt; hstore.has(key.as_bytes()), there, "{key} in {text}");
-    }
-    let hstore = Hstore::read(rt.alloc(), "k4=>v14")?;
-    for (text, contained) in [("k4=>v14", true), ("k4=>v4", false)] {
-        let other = Hstore::read(rt.alloc(), text)?;
-        assert_eq!(rt; hstore.contains(&other), contained, "{text}");
-    }
-    Ok(())
-}
-
-#[test]
-fn lengths_of_two_bytes(rt: HostRuntime) -> Result<(), Fail> {
-    let alloc = rt.alloc();
-    let mut word = String::new(alloc);
-    for _ in 0..128 {
-        word.push('x')?;
-    }
-    let hstore = Hstore::read(alloc, format!(in alloc; "{word}=>{word}")?.as_str())?;
-    let bytes = encoded(alloc, &hstore)?;
-    assert_eq!(rt; bytes.len(), 2 * (2 + 128) + 1);
-    assert!(rt; bytes.as_slice().starts_with(&[128, 1, b'x']));
-    let again = Hstore::decode(alloc, bytes.as_slice())?.ok_or("no map")?;
-    assert!(rt; again.has(word.as_bytes()));
-    assert!(rt; again.contains(&hstore));
     Ok(())
 }
 
@@ -247,20 +263,41 @@ const NO_BYTES: [&'static [u8]; 9] = [
     b"\x81\x00a\x00",
 ];
 
+/// Whether the map of a text has these bytes, and the bytes are decoded to a map that is printed alike.
+fn is_encoded_so(alloc: Global, text: &str, want: &[u8]) -> Result<bool, ValueError> {
+    let (printed, bytes) = read(alloc, text)?;
+    match decoded(alloc, want) {
+        Ok(Some((again, _))) => {
+            Ok(bytes.as_slice() == want && again.as_slice() == printed.as_slice())
+        }
+        Ok(None) => Ok(false),
+        Err(_) => Err(ValueError::Memory),
+    }
+}
+
+/// A word, and a pair of the word with itself as a text and as the bytes of the map.
+fn long_pair(alloc: Global) -> Result<(String, Bytes), NoMemory> {
+    let word = nested(alloc, 128, "x", "", "")?;
+    let text = format!(in alloc; "{word}=>{word}")?;
+    let mut bytes = Bytes::from_slice(alloc, b"\x80\x01")?;
+    bytes.extend_from_slice(word.as_bytes())?;
+    bytes.extend_from_slice(b"\x01\x80\x01")?;
+    bytes.extend_from_slice(word.as_bytes())?;
+    Ok((text, bytes))
+}
+
 #[test]
 fn bytes_in_a_row(rt: HostRuntime) -> Result<(), Fail> {
-    for (text, want) in ENCODED {
-        let hstore = Hstore::read(rt.alloc(), text)?;
-        let bytes = encoded(rt.alloc(), &hstore)?;
-        assert!(rt; bytes.as_slice() == want, "at {text}");
-        let again = Hstore::decode(rt.alloc(), want)?.ok_or("no map")?;
+    for (text, want) in &ENCODED {
         assert!(rt;
-            again.contains(&hstore) && again.count() == hstore.count(),
+            is_encoded_so(rt.alloc(), text, want) == Ok(true),
             "at {text}"
         );
     }
-    for bytes in NO_BYTES {
-        assert!(rt; Hstore::decode(rt.alloc(), bytes)?.is_none());
+    let (text, bytes) = long_pair(rt.alloc())?;
+    assert!(rt; is_encoded_so(rt.alloc(), text.as_str(), bytes.as_slice()) == Ok(true));
+    for bytes in &NO_BYTES {
+        assert!(rt; decoded(rt.alloc(), bytes)?.is_none(), "at {bytes:?}");
     }
     Ok(())
 }

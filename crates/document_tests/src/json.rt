@@ -1,12 +1,13 @@
 //! Worked documents, boundary values, and each call once.
 
+use crate::hstore::keys_of;
 use gx_bytes::{Bytes, NoMemory, ValueError};
 use gx_json::Json;
 use std::alloc::Global;
 use std::test::Fail;
 
 /// So many openings, the text, and as many closings.
-fn nested(
+pub fn nested(
     alloc: Global,
     count: usize,
     opening: &str,
@@ -24,24 +25,53 @@ fn nested(
     Ok(text)
 }
 
-/// Whether the document of the text has this printed text and these bytes, and both are read as the same document again.
-fn is_written_so(alloc: Global, text: &str, want: &str, want_bytes: &str) -> Result<bool, Fail> {
-    let json = Json::read(alloc, text)?;
-    let mut printed = Bytes::new(alloc);
-    json.print(&mut printed)?;
+/// The printed text of a copy of the document, and the bytes.
+fn written(alloc: Global, json: &Json) -> Result<(Bytes, Bytes), NoMemory> {
+    let mut text = Bytes::new(alloc);
+    json.copy(alloc)?.print(&mut text)?;
     let mut bytes = Bytes::new(alloc);
     json.encode(&mut bytes)?;
-    let mut again = Bytes::new(alloc);
-    Json::read(alloc, want)?.encode(&mut again)?;
-    let decoded = Json::decode(alloc, bytes.as_slice())?.ok_or("no document")?;
-    let mut last = Bytes::new(alloc);
-    decoded.print(&mut last)?;
-    Ok(
-        printed.as_slice() == want.as_bytes()
-            && bytes.as_slice() == want_bytes.as_bytes()
-            && again.as_slice() == want_bytes.as_bytes()
-            && last.as_slice() == want.as_bytes(),
-    )
+    Ok((text, bytes))
+}
+
+/// The printed text of the document of a text, and its bytes.
+fn read(alloc: Global, text: &str) -> Result<(Bytes, Bytes), ValueError> {
+    let json = Json::read(alloc, text)?;
+    match written(alloc, &json) {
+        Ok(written) => Ok(written),
+        Err(_) => Err(ValueError::Memory),
+    }
+}
+
+/// The printed text of the document of these bytes, and its bytes.
+fn decoded(alloc: Global, bytes: &[u8]) -> Result<Option<(Bytes, Bytes)>, NoMemory> {
+    match Json::decode(alloc, bytes)? {
+        Some(json) => Ok(Some(written(alloc, &json)?)),
+        None => Ok(None),
+    }
+}
+
+fn is_read_so(alloc: Global, text: &str, want: &str, want_bytes: &[u8]) -> bool {
+    match read(alloc, text) {
+        Ok((text, bytes)) => text.as_slice() == want.as_bytes() && bytes.as_slice() == want_bytes,
+        Err(_) => false,
+    }
+}
+
+fn is_decoded_so(alloc: Global, want: &str, want_bytes: &[u8]) -> bool {
+    match decoded(alloc, want_bytes) {
+        Ok(Some((text, bytes))) => {
+            text.as_slice() == want.as_bytes() && bytes.as_slice() == want_bytes
+        }
+        _ => false,
+    }
+}
+
+/// Whether the document of the text has this printed text and these bytes, and both are read as the same document again.
+fn is_written_so(alloc: Global, text: &str, want: &str, want_bytes: &str) -> bool {
+    is_read_so(alloc, text, want, want_bytes.as_bytes())
+        && is_read_so(alloc, want, want, want_bytes.as_bytes())
+        && is_decoded_so(alloc, want, want_bytes.as_bytes())
 }
 
 /// A text, the printed text, and the bytes.
@@ -150,14 +180,10 @@ const WRITTEN: [(&'static str, &'static str, &'static str); 33] = [
 ];
 
 #[test]
-fn documents_are_written(rt: HostRuntime) -> Result<(), Fail> {
-    for (text, want, want_bytes) in WRITTEN {
-        assert!(rt;
-            is_written_so(rt.alloc(), text, want, want_bytes)?,
-            "at {text}"
-        );
+fn documents_are_written(rt: HostRuntime) {
+    for (text, want, bytes) in &WRITTEN {
+        assert!(rt; is_written_so(rt.alloc(), text, want, bytes), "at {text}");
     }
-    Ok(())
 }
 
 /// The letters from the last.
@@ -166,10 +192,8 @@ const LETTERS: [&'static str; 26] = [
     "g", "f", "e", "d", "c", "b", "a",
 ];
 
-/// Keys whose order by bytes is the reverse of that by length.
-#[test]
-fn many_keys_by_length(rt: HostRuntime) -> Result<(), Fail> {
-    let alloc = rt.alloc();
+/// An object with keys whose order by bytes is the reverse of that by length, as it is printed.
+fn many_keys(alloc: Global) -> Result<String, NoMemory> {
     let mut text = String::new(alloc);
     let mut before = "{";
     for (at, letter) in LETTERS.iter().enumerate() {
@@ -178,30 +202,36 @@ fn many_keys_by_length(rt: HostRuntime) -> Result<(), Fail> {
         before = ", ";
     }
     text.push('}')?;
-    let mut printed = Bytes::new(alloc);
-    Json::read(alloc, text.as_str())?.print(&mut printed)?;
-    assert!(rt; printed.as_slice() == text.as_bytes());
-    Ok(())
+    Ok(text)
+}
+
+fn is_printed_so(alloc: Global, text: &str, want: &str) -> bool {
+    match read(alloc, text) {
+        Ok((text, _)) => text.as_slice() == want.as_bytes(),
+        Err(_) => false,
+    }
+}
+
+/// A document of 6,000 bytes as it is printed, and as bytes.
+fn long_document(alloc: Global) -> Result<(String, String), NoMemory> {
+    let letters = nested(alloc, 5979, "x", "", "")?;
+    let printed = format!(in alloc; "{{\"id\": 7, \"note\": \"{letters}\"}}")?;
+    let bytes = format!(in alloc; "{{\"id\":7,\"note\":\"{letters}\"}}")?;
+    Ok((printed, bytes))
 }
 
 #[test]
-fn a_document_of_six_thousand_bytes(rt: HostRuntime) -> Result<(), Fail> {
+fn large_documents(rt: HostRuntime) -> Result<(), Fail> {
     let alloc = rt.alloc();
-    let letters = nested(alloc, 5979, "x", "", "")?;
-    let text = format!(in alloc; "{{\"id\":7,\"note\":\"{letters}\"}}")?;
-    let want = format!(in alloc; "{{\"id\": 7, \"note\": \"{letters}\"}}")?;
-    let json = Json::read(alloc, text.as_str())?;
-    let mut printed = Bytes::new(alloc);
-    json.print(&mut printed)?;
-    assert_eq!(rt; printed.len(), 6000);
-    assert!(rt; printed.as_slice() == want.as_bytes());
-    let mut again = Bytes::new(alloc);
-    Json::read(alloc, want.as_str())?.encode(&mut again)?;
-    assert!(rt; again.as_slice() == text.as_bytes());
-    assert!(rt; json.contains(&Json::read(alloc, "{\"id\":7}")?));
-    assert!(rt; json.contains(&Json::read(alloc, want.as_str())?));
-    assert!(rt; !json.contains(&Json::read(alloc, "{\"id\":8}")?));
-    assert!(rt; json.has_key(b"note"));
+    let keys = many_keys(alloc)?;
+    assert!(rt; is_printed_so(alloc, keys.as_str(), keys.as_str()));
+    let (want, bytes) = long_document(alloc)?;
+    assert!(rt; want.len() == 6000);
+    assert!(rt; is_written_so(alloc, bytes.as_str(), want.as_str(), bytes.as_str()));
+    assert!(rt; contains(alloc, bytes.as_str(), "{\"id\":7}") == Ok(true));
+    assert!(rt; contains(alloc, bytes.as_str(), want.as_str()) == Ok(true));
+    assert!(rt; contains(alloc, bytes.as_str(), "{\"id\":8}") == Ok(false));
+    assert!(rt; has_key(alloc, bytes.as_str(), "note") == Ok(true));
     Ok(())
 }
 
@@ -257,9 +287,9 @@ const REFUSED: [(&'static str, ValueError); 41] = [
 
 #[test]
 fn texts_that_are_refused(rt: HostRuntime) {
-    for (text, want) in REFUSED {
+    for (text, want) in &REFUSED {
         assert!(rt;
-            Json::read(rt.alloc(), text).err() == Some(want),
+            Json::read(rt.alloc(), text).err() == Some(*want),
             "at {text}"
         );
     }
@@ -284,23 +314,32 @@ const LEVELS: [(
     (65, "]", "", "", Some(ValueError::NoValue)),
 ];
 
+/// Why so many openings, the text and as many closings are refused.
+fn fault_of(
+    alloc: Global,
+    count: usize,
+    opening: &str,
+    inner: &str,
+    closing: &str,
+) -> Option<ValueError> {
+    match nested(alloc, count, opening, inner, closing) {
+        Ok(text) => Json::read(alloc, text.as_str()).err(),
+        Err(_) => Some(ValueError::Memory),
+    }
+}
+
 #[test]
 fn sixty_four_levels(rt: HostRuntime) -> Result<(), Fail> {
-    for (count, opening, inner, closing, want) in LEVELS {
-        let text = nested(rt.alloc(), count, opening, inner, closing)?;
-        let fault = Json::read(rt.alloc(), text.as_str()).err();
-        assert!(rt; fault == want, "{count} times {opening}");
+    for (count, opening, inner, closing, want) in &LEVELS {
+        assert!(rt;
+            fault_of(rt.alloc(), *count, opening, inner, closing) == *want,
+            "{count} times {opening}"
+        );
     }
     let full = nested(rt.alloc(), 64, "[", "", "]")?;
-    let mut bytes = Bytes::new(rt.alloc());
-    Json::read(rt.alloc(), full.as_str())?.encode(&mut bytes)?;
-    assert!(rt; bytes.as_slice() == full.as_bytes());
-    let decoded = Json::decode(rt.alloc(), bytes.as_slice())?.ok_or("no document")?;
-    let mut printed = Bytes::new(rt.alloc());
-    decoded.print(&mut printed)?;
-    assert!(rt; printed.as_slice() == full.as_bytes());
+    assert!(rt; is_written_so(rt.alloc(), full.as_str(), full.as_str(), full.as_str()));
     let deep = nested(rt.alloc(), 65, "[", "", "]")?;
-    assert!(rt; Json::decode(rt.alloc(), deep.as_bytes())?.is_none());
+    assert!(rt; decoded(rt.alloc(), deep.as_bytes())?.is_none());
     Ok(())
 }
 
@@ -321,8 +360,8 @@ const NO_BYTES: [&'static [u8]; 11] = [
 
 #[test]
 fn bytes_of_no_document(rt: HostRuntime) -> Result<(), Fail> {
-    for bytes in NO_BYTES {
-        assert!(rt; Json::decode(rt.alloc(), bytes)?.is_none(), "at {bytes:?}");
+    for bytes in &NO_BYTES {
+        assert!(rt; decoded(rt.alloc(), bytes)?.is_none(), "at {bytes:?}");
     }
     Ok(())
 }
@@ -345,27 +384,8 @@ const TOP: [(&'static str, &'static str, bool); 14] = [
     ("{\"\":1}", "", true),
 ];
 
-#[test]
-fn keys_and_texts_at_the_top(rt: HostRuntime) -> Result<(), Fail> {
-    for (text, key, want) in TOP {
-        let json = Json::read(rt.alloc(), text)?;
-        assert_eq!(rt; json.has_key(key.as_bytes()), want, "{key} in {text}");
-    }
-    Ok(())
-}
-
-fn keys_of(alloc: Global, words: &[&str]) -> Result<Vec<Bytes>, NoMemory> {
-    let mut keys = Vec::new(alloc);
-    for word in words {
-        keys.push(Bytes::from_slice(alloc, word.as_bytes())?)?;
-    }
-    Ok(keys)
-}
-
-/// Whether the document of the text has all of the keys, and some.
-fn keys_held(alloc: Global, text: &str, keys: &[Bytes]) -> Result<(bool, bool), ValueError> {
-    let json = Json::read(alloc, text)?;
-    Ok((json.has_all(keys), json.has_any(keys)))
+fn has_key(alloc: Global, text: &str, key: &str) -> Result<bool, ValueError> {
+    Ok(Json::read(alloc, text)?.has_key(key.as_bytes()))
 }
 
 /// A document, keys, and whether it has all of them and some.
@@ -380,21 +400,29 @@ const SOME_KEYS: [(&'static str, &'static [&'static str], bool, bool); 8] = [
     ("1", &["1"], false, false),
 ];
 
-#[test]
-fn all_and_some_keys(rt: HostRuntime) -> Result<(), Fail> {
-    for (text, keys, all, some) in SOME_KEYS {
-        let bytes = keys_of(rt.alloc(), keys)?;
-        let (has_all, has_some) = keys_held(rt.alloc(), text, &bytes)?;
-        assert!(rt; has_all == all, "all of {keys:?} in {text}");
-        assert!(rt; has_some == some, "some of {keys:?} in {text}");
-        let json = Json::read(rt.alloc(), text)?;
-        let mut printed = Bytes::new(rt.alloc());
-        json.print(&mut printed)?;
-        let mut copied = Bytes::new(rt.alloc());
-        json.copy(rt.alloc())?.print(&mut copied)?;
-        assert_eq!(rt; copied.as_slice(), printed.as_slice(), "at {text}");
+/// Whether the document of the text has all of the keys, and some.
+fn keys_held(alloc: Global, text: &str, words: &[&str]) -> Result<(bool, bool), ValueError> {
+    let json = Json::read(alloc, text)?;
+    match keys_of(alloc, words) {
+        Ok(keys) => Ok((json.has_all(&keys), json.has_any(&keys))),
+        Err(_) => Err(ValueError::Memory),
     }
-    Ok(())
+}
+
+#[test]
+fn keys_and_texts_at_the_top(rt: HostRuntime) {
+    for (text, key, want) in &TOP {
+        assert!(rt;
+            has_key(rt.alloc(), text, key) == Ok(*want),
+            "{key} in {text}"
+        );
+    }
+    for (text, words, all, some) in &SOME_KEYS {
+        assert!(rt;
+            keys_held(rt.alloc(), text, words) == Ok((*all, *some)),
+            "{words:?} in {text}"
+        );
+    }
 }
 
 /// Whether the first document contains the second.
@@ -447,10 +475,11 @@ const PAIRS: [(&'static str, &'static str, bool); 34] = [
 ];
 
 #[test]
-fn documents_in_one_another(rt: HostRuntime) -> Result<(), Fail> {
-    for (text, other, want) in PAIRS {
-        let answer = contains(rt.alloc(), text, other)?;
-        assert_eq!(rt; answer, want, "{other} in {text}");
+fn documents_in_one_another(rt: HostRuntime) {
+    for (text, other, want) in &PAIRS {
+        assert!(rt;
+            contains(rt.alloc(), text, other) == Ok(*want),
+            "{other} in {text}"
+        );
     }
-    Ok(())
 }

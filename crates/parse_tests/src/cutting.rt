@@ -9,11 +9,11 @@ use std::test::Fail;
 
 /// A script with tokens of all kinds.
 const SCRIPT: &[u8] =
-    b"SELECT a FROM t WHERE a <= 'it''s;' -- no ; 'here\n AND b -|- '[1,2)'::int4range; ;\
+    b"SELECT * FROM t WHERE a <= 1 OR a != 'it''s;' -- no ; 'here\n AND b -|- '[1,2)'::int4range; ;\
     Insert INTO t (a) VALUES (ARRAY[+1, -2]), (NULL);-;--;'\n-'--'-;'';;CHECKPOINT; 'open; --";
 
 const PIECES: [&[u8]; 9] = [
-    b"SELECT a FROM t WHERE a <= 'it''s;' -- no ; 'here\n AND b -|- '[1,2)'::int4range",
+    b"SELECT * FROM t WHERE a <= 1 OR a != 'it''s;' -- no ; 'here\n AND b -|- '[1,2)'::int4range",
     b" ",
     b"Insert INTO t (a) VALUES (ARRAY[+1, -2]), (NULL)",
     b"-",

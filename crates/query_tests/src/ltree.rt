@@ -1,64 +1,97 @@
 //! Worked texts, boundary values, and each call once.
 
+use crate::lquery::repeated;
 use gx_bytes::{Bytes, NoMemory, ValueError};
 use gx_ltree::{LtreeOp, Path, is_label_byte, take_label};
 use std::alloc::Global;
 use std::cmp::Ordering;
 use std::test::Fail;
 
-/// The text with this many letters `a`, each but the last with the separator behind it.
-fn letters(alloc: Global, count: usize, dotted: bool) -> Result<String, NoMemory> {
-    let mut text = String::new(alloc);
-    for at in 0..count {
-        if dotted && at > 0 {
-            text.push('.')?;
-        }
-        text.push('a')?;
+/// The printed text of a copy of the path, and the bytes.
+fn written(alloc: Global, path: &Path) -> Result<(Bytes, Bytes), NoMemory> {
+    let mut printed = Bytes::new(alloc);
+    path.copy(alloc)?.print(&mut printed)?;
+    let mut bytes = Bytes::new(alloc);
+    path.encode(&mut bytes)?;
+    Ok((printed, bytes))
+}
+
+/// Whether the bytes are those of the path.
+fn is_decoded(alloc: Global, bytes: &[u8], path: &Path) -> bool {
+    match Path::decode(alloc, bytes) {
+        Ok(Some(again)) => again.compare(path) == Ordering::Equal,
+        _ => false,
     }
-    Ok(text)
+}
+
+/// How many labels a path has that is printed as its text, and read again from its bytes.
+fn count_written(alloc: Global, text: &str) -> Result<usize, ValueError> {
+    let path = Path::read(alloc, text)?;
+    match written(alloc, &path) {
+        Ok((printed, bytes)) => if printed.as_slice() == text.as_bytes()
+            && is_decoded(alloc, bytes.as_slice(), &path)
+        {
+            Ok(path.count())
+        } else {
+            Err(ValueError::TooDeep)
+        },
+        Err(_) => Err(ValueError::Memory),
+    }
+}
+
+/// Texts, and the number of their labels or the fault.
+const TEXTS: [(&'static str, Result<usize, ValueError>); 13] = [
+    ("", Ok(0)),
+    ("a", Ok(1)),
+    ("Top.a_1.b-2.9", Ok(4)),
+    ("-._.Z", Ok(3)),
+    ("a..b", Err(ValueError::NoValue)),
+    (".a", Err(ValueError::NoValue)),
+    ("a.", Err(ValueError::NoValue)),
+    (".", Err(ValueError::NoValue)),
+    (" a", Err(ValueError::NoValue)),
+    ("a b", Err(ValueError::NoValue)),
+    ("ä", Err(ValueError::NoValue)),
+    ("a.*", Err(ValueError::NoValue)),
+    ("a\n", Err(ValueError::NoValue)),
+];
+
+fn decodes(alloc: Global, bytes: &[u8]) -> Result<bool, NoMemory> {
+    Ok(Path::decode(alloc, bytes)?.is_some())
 }
 
 #[test]
-fn texts_that_are_printed_as_they_were(rt: HostRuntime) -> Result<(), Fail> {
-    for (text, count) in [("", 0), ("a", 1), ("Top.a_1.b-2.9", 4), ("-._.Z", 3)] {
-        let path = Path::read(rt.alloc(), text)?;
-        assert_eq!(rt; path.count(), count, "at {text}");
-        let mut printed = Bytes::new(rt.alloc());
-        path.print(&mut printed)?;
-        assert!(rt; printed.as_slice() == text.as_bytes(), "at {text}");
-        let mut bytes = Bytes::new(rt.alloc());
-        path.encode(&mut bytes)?;
-        let again = Path::decode(rt.alloc(), bytes.as_slice())?.ok_or("no path")?;
-        assert!(rt; again.compare(&path) == Ordering::Equal, "at {text}");
+fn texts_and_bytes(rt: HostRuntime) {
+    for (text, want) in &TEXTS {
+        assert!(rt; count_written(rt.alloc(), text) == *want, "at {text}");
+        assert!(rt;
+            decodes(rt.alloc(), text.as_bytes()) == Ok(want.is_ok()),
+            "at {text}"
+        );
     }
-    Ok(())
 }
 
-#[test]
-fn texts_that_are_refused(rt: HostRuntime) -> Result<(), Fail> {
-    for text in ["a..b", ".a", "a.", ".", " a", "a b", "ä", "a.*", "a\n"] {
-        assert!(rt;
-            Path::read(rt.alloc(), text).err() == Some(ValueError::NoValue),
-            "at {text}"
-        );
-        assert!(rt;
-            Path::decode(rt.alloc(), text.as_bytes())?.is_none(),
-            "at {text}"
-        );
-    }
-    Ok(())
+/// A text this many times, an end behind it, and the number of the labels or the fault.
+const LONG: [(&'static str, usize, &'static str, Result<usize, ValueError>); 4] = [
+    ("a", 1000, "", Ok(1)),
+    ("a", 1001, "", Err(ValueError::NoValue)),
+    ("a.", 65534, "a", Ok(65535)),
+    ("a.", 65535, "b ", Err(ValueError::OutOfRange)),
+];
+
+fn count(alloc: Global, text: &str) -> Result<usize, ValueError> {
+    Ok(Path::read(alloc, text)?.count())
 }
 
 #[test]
 fn the_longest_label_and_the_longest_path(rt: HostRuntime) -> Result<(), Fail> {
-    let longest = letters(rt.alloc(), 1000, false)?;
-    assert_eq!(rt; Path::read(rt.alloc(), longest.as_str())?.count(), 1);
-    let longer = letters(rt.alloc(), 1001, false)?;
-    assert!(rt; Path::read(rt.alloc(), longer.as_str()).err() == Some(ValueError::NoValue));
-    let mut path = letters(rt.alloc(), 65535, true)?;
-    assert_eq!(rt; Path::read(rt.alloc(), path.as_str())?.count(), 65535);
-    path.push_str(".b ")?;
-    assert!(rt; Path::read(rt.alloc(), path.as_str()).err() == Some(ValueError::OutOfRange));
+    for (part, times, end, want) in &LONG {
+        let text = repeated(rt.alloc(), part, *times, end)?;
+        assert!(rt;
+            count(rt.alloc(), text.as_str()) == *want,
+            "{times} times {part}"
+        );
+    }
     Ok(())
 }
 
@@ -73,19 +106,26 @@ const RISING: [(&'static str, &'static str, bool); 7] = [
     ("a.b", "aa", false),
 ];
 
+/// Whether the first path is the lesser one both ways round, and which of them is a prefix of the other.
+fn order(alloc: Global, left: &str, right: &str) -> Result<(bool, bool, bool), ValueError> {
+    let a = Path::read(alloc, left)?;
+    let b = Path::read(alloc, right)?;
+    let rises = a.compare(&b) == Ordering::Less && b.compare(&a) == Ordering::Greater;
+    Ok((rises, a.above(&b), b.above(&a)))
+}
+
 #[test]
-fn order_and_prefixes(rt: HostRuntime) -> Result<(), Fail> {
-    for (left, right, above) in RISING {
-        let a = Path::read(rt.alloc(), left)?;
-        let b = Path::read(rt.alloc(), right)?;
-        assert!(rt; a.compare(&b) == Ordering::Less, "{left} and {right}");
-        assert!(rt; b.compare(&a) == Ordering::Greater, "{right} and {left}");
+fn order_and_prefixes(rt: HostRuntime) {
+    for (left, right, above) in &RISING {
         assert!(rt;
-            a.above(&b) == above && !b.above(&a) && a.above(&a),
+            order(rt.alloc(), left, right) == Ok((true, *above, false)),
             "{left} and {right}"
         );
+        assert!(rt;
+            order(rt.alloc(), left, left) == Ok((false, true, true)),
+            "{left}"
+        );
     }
-    Ok(())
 }
 
 #[test]
@@ -93,39 +133,48 @@ fn labels_one_by_one(rt: HostRuntime) -> Result<(), Fail> {
     let mut path = Path::new(rt.alloc());
     path.push(b"Top")?;
     path.push(b"9")?;
-    assert!(rt; path.label(0) == Some(b"Top".as_slice()));
-    assert!(rt; path.label(1) == Some(b"9".as_slice()));
-    assert!(rt; path.label(2).is_none());
+    let labels = [Some(b"Top".as_slice()), Some(b"9".as_slice()), None];
+    for (at, want) in labels.iter().enumerate() {
+        assert!(rt; path.label(at) == *want);
+    }
     assert!(rt; is_label_byte(b'_') && !is_label_byte(b'.'));
     assert!(rt; take_label(b"a-1*b") == Some((b"a-1".as_slice(), b"*b".as_slice())));
     Ok(())
 }
 
+/// The operators between paths.
+const OPERATORS: [LtreeOp; 7] = [
+    LtreeOp::Less,
+    LtreeOp::LessEqual,
+    LtreeOp::Equal,
+    LtreeOp::GreaterEqual,
+    LtreeOp::Greater,
+    LtreeOp::Above,
+    LtreeOp::Below,
+];
+
 /// Two paths, and whether `< <= = >= > @> <@` hold.
-const OPERATORS: [(&'static str, &'static str, [bool; 7]); 4] = [
+const HELD: [(&'static str, &'static str, [bool; 7]); 4] = [
     ("a", "a.b", [true, true, false, false, false, true, false]),
     ("a.b", "a.b", [false, true, true, true, false, true, true]),
     ("a.b", "a", [false, false, false, true, true, false, true]),
     ("b", "a.b", [false, false, false, true, true, false, false]),
 ];
 
+fn holds(alloc: Global, op: LtreeOp, left: &str, right: &str) -> Result<bool, ValueError> {
+    let value = Path::read(alloc, left)?;
+    let operand = Path::read(alloc, right)?;
+    Ok(value.holds(op, &operand))
+}
+
 #[test]
-fn operators_between_paths(rt: HostRuntime) -> Result<(), Fail> {
-    let ops = [
-        LtreeOp::Less,
-        LtreeOp::LessEqual,
-        LtreeOp::Equal,
-        LtreeOp::GreaterEqual,
-        LtreeOp::Greater,
-        LtreeOp::Above,
-        LtreeOp::Below,
-    ];
-    for (left, right, wants) in OPERATORS {
-        let value = Path::read(rt.alloc(), left)?.copy(rt.alloc())?;
-        let operand = Path::read(rt.alloc(), right)?;
-        for (op, want) in ops.iter().zip(wants.iter()) {
-            assert_eq!(rt; value.holds(*op, &operand), *want, "{left} {op:?} {right}");
+fn operators_between_paths(rt: HostRuntime) {
+    for (left, right, wants) in &HELD {
+        for (op, want) in OPERATORS.iter().zip(wants.iter()) {
+            assert!(rt;
+                holds(rt.alloc(), *op, left, right) == Ok(*want),
+                "{left} {op:?} {right}"
+            );
         }
     }
-    Ok(())
 }

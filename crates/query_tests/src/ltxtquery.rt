@@ -1,5 +1,6 @@
 //! Worked formulas, refusals and limits.
 
+use crate::lquery::repeated;
 use gx_bytes::{NoMemory, ValueError};
 use gx_lquery::{Lqueries, Lquery};
 use gx_ltree::{LtreeOp, Path};
@@ -20,43 +21,46 @@ const FORMULAS: [(&'static str, [bool; 5]); 9] = [
     ("!!b@*@\n|\tx", [false, false, true, true, true]),
 ];
 
+/// Whether the formula is true of the path, or why a text is none.
+fn matched(alloc: Global, path: &str, query: &str) -> Result<bool, ValueError> {
+    let path = Path::read(alloc, path)?;
+    let query = Ltxtquery::read(alloc, query)?;
+    match query.matches(alloc, &path) {
+        Ok(answer) => Ok(answer),
+        Err(_) => Err(ValueError::Memory),
+    }
+}
+
 #[test]
-fn formulas_over_paths(rt: HostRuntime) -> Result<(), Fail> {
-    for (text, wants) in FORMULAS {
-        let query = Ltxtquery::read(rt.alloc(), text)?;
+fn formulas_over_paths(rt: HostRuntime) {
+    for (text, wants) in &FORMULAS {
         for (path, want) in ["", "a", "a.b", "A.B.c", "b.a"].iter().zip(wants.iter()) {
-            let path = Path::read(rt.alloc(), path)?;
-            assert_eq!(rt; query.matches(rt.alloc(), &path)?, *want, "{text}");
+            assert!(rt;
+                matched(rt.alloc(), path, text) == Ok(*want),
+                "{path} at {text}"
+            );
         }
     }
-    Ok(())
-}
-
-#[test]
-fn texts_that_are_refused(rt: HostRuntime) {
-    for text in [
-        "", " ", "a b", "a &", "& a", "(a", "a)", "()", "a%", "a @", "@", "a.b", "a!b", "!",
-        "a & & b", "ä",
-    ] {
-        assert!(rt;
-            Ltxtquery::read(rt.alloc(), text).err() == Some(ValueError::NoValue),
-            "at {text}"
-        );
-    }
-}
-
-/// The text this many times, and another behind it.
-fn repeated(alloc: Global, part: &str, count: usize, end: &str) -> Result<String, NoMemory> {
-    let mut text = String::new(alloc);
-    for _ in 0..count {
-        text.push_str(part)?;
-    }
-    text.push_str(end)?;
-    Ok(text)
 }
 
 /// A part of a formula, how many times it stands before another, and why the whole is refused.
-const LIMITS: [(&'static str, usize, &'static str, Option<ValueError>); 12] = [
+const FAULTS: [(&'static str, usize, &'static str, Option<ValueError>); 28] = [
+    ("", 0, "", Some(ValueError::NoValue)),
+    (" ", 1, "", Some(ValueError::NoValue)),
+    ("a b", 1, "", Some(ValueError::NoValue)),
+    ("a &", 1, "", Some(ValueError::NoValue)),
+    ("& a", 1, "", Some(ValueError::NoValue)),
+    ("(a", 1, "", Some(ValueError::NoValue)),
+    ("a)", 1, "", Some(ValueError::NoValue)),
+    ("()", 1, "", Some(ValueError::NoValue)),
+    ("a%", 1, "", Some(ValueError::NoValue)),
+    ("a @", 1, "", Some(ValueError::NoValue)),
+    ("@", 1, "", Some(ValueError::NoValue)),
+    ("a.b", 1, "", Some(ValueError::NoValue)),
+    ("a!b", 1, "", Some(ValueError::NoValue)),
+    ("!", 1, "", Some(ValueError::NoValue)),
+    ("a & & b", 1, "", Some(ValueError::NoValue)),
+    ("ä", 1, "", Some(ValueError::NoValue)),
     ("!", 64, "a", None),
     ("!", 65, "a", Some(ValueError::TooDeep)),
     ("!", 65, "%", Some(ValueError::TooDeep)),
@@ -72,33 +76,45 @@ const LIMITS: [(&'static str, usize, &'static str, Option<ValueError>); 12] = [
 ];
 
 #[test]
-fn limits(rt: HostRuntime) -> Result<(), Fail> {
-    for (part, count, end, want) in LIMITS {
-        let text = repeated(rt.alloc(), part, count, end)?;
+fn refusals_and_limits(rt: HostRuntime) -> Result<(), Fail> {
+    for (part, count, end, want) in &FAULTS {
+        let text = repeated(rt.alloc(), part, *count, end)?;
         assert!(rt;
-            Ltxtquery::read(rt.alloc(), text.as_str()).err() == want,
+            Ltxtquery::read(rt.alloc(), text.as_str()).err() == *want,
             "{count} times {part}"
         );
     }
     Ok(())
 }
 
+/// Whether the query holds of `top.a.b`.
+fn holds(alloc: Global, query: &LtreeQuery) -> Result<bool, ValueError> {
+    let path = Path::read(alloc, "top.a.b")?;
+    match query.holds(alloc, &path) {
+        Ok(answer) => Ok(answer),
+        Err(_) => Err(ValueError::Memory),
+    }
+}
+
+fn two_queries(alloc: Global) -> Result<LtreeQuery, Fail> {
+    let mut queries = Lqueries::new(alloc);
+    queries.push(Lquery::read(alloc, "x.*")?)?;
+    queries.push(Lquery::read(alloc, "*.b")?)?;
+    Ok(LtreeQuery::Lqueries(queries))
+}
+
 #[test]
 fn operators_of_every_operand(rt: HostRuntime) -> Result<(), Fail> {
-    let path = Path::read(rt.alloc(), "top.a.b")?;
-    let mut queries = Lqueries::new(rt.alloc());
-    queries.push(Lquery::read(rt.alloc(), "x.*")?)?;
-    queries.push(Lquery::read(rt.alloc(), "*.b")?)?;
+    let alloc = rt.alloc();
     let above = LtreeQuery::Path {
         op: LtreeOp::Below,
-        operand: Path::read(rt.alloc(), "top")?,
+        operand: Path::read(alloc, "top")?,
     };
-    let one = LtreeQuery::Lquery(Lquery::read(rt.alloc(), "top.!a.*")?);
-    let some = LtreeQuery::Lqueries(queries);
-    let words = Ltxtquery::read(rt.alloc(), "TOP@ & !c")?.copy(rt.alloc())?;
-    let words = LtreeQuery::Words(words);
-    for (query, want) in [(&above, true), (&one, false), (&some, true), (&words, true)] {
-        assert_eq!(rt; query.holds(rt.alloc(), &path)?, want);
-    }
+    assert!(rt; holds(alloc, &above) == Ok(true));
+    let one = LtreeQuery::Lquery(Lquery::read(alloc, "top.!a.*")?);
+    assert!(rt; holds(alloc, &one) == Ok(false));
+    assert!(rt; holds(alloc, &two_queries(alloc)?) == Ok(true));
+    let words = Ltxtquery::read(alloc, "TOP@ & !c")?.copy(alloc)?;
+    assert!(rt; holds(alloc, &LtreeQuery::Words(words)) == Ok(true));
     Ok(())
 }

@@ -1,10 +1,11 @@
 //! Bytes, fields, days and whole numbers: values of the LEB128 and FNV specifications, and each call once.
 
 use gx_bytes::{
-    Bytes, ValueError, behind_byte, cut_at, field, fnv, get_u16, get_u32, get_u64, print_day,
-    print_whole, push_field, push_varint, put_u16, put_u32, put_u64, read_day, read_whole, text_of,
-    trimmed, varint, without_blanks,
+    Bytes, NoMemory, ValueError, behind_byte, cut_at, field, fnv, get_u16, get_u32, get_u64,
+    print_day, print_whole, push_field, push_varint, put_u16, put_u32, put_u64, read_day,
+    read_whole, text_of, trimmed, varint, without_blanks,
 };
+use std::alloc::Global;
 use std::test::Fail;
 
 #[test]
@@ -26,44 +27,67 @@ fn texts_are_cut(rt: HostRuntime) -> Result<(), Fail> {
     Ok(())
 }
 
+/// Numbers, and their LEB128 spellings.
+const SPELLINGS: [(u64, &'static [u8]); 6] = [
+    (0, &[0]),
+    (127, &[127]),
+    (128, &[128, 1]),
+    (624_485, &[0xe5, 0x8e, 0x26]),
+    (1 << 63, &[128, 128, 128, 128, 128, 128, 128, 128, 128, 1]),
+    (u64::MAX, &[255, 255, 255, 255, 255, 255, 255, 255, 255, 1]),
+];
+
+/// Bytes that spell no number.
+const NO_SPELLINGS: [&'static [u8]; 6] = [
+    &[],
+    &[128],
+    &[128, 0],
+    &[255, 128, 0],
+    &[255, 255, 255, 255, 255, 255, 255, 255, 255, 2],
+    &[128, 128, 128, 128, 128, 128, 128, 128, 128, 128, 1],
+];
+
+/// The spelling of a number, and a byte 7 behind it.
+fn spelled(alloc: Global, value: u64) -> Result<Bytes, NoMemory> {
+    let mut bytes = Bytes::new(alloc);
+    push_varint(&mut bytes, value)?;
+    bytes.push(7)?;
+    Ok(bytes)
+}
+
+/// Whether a number is spelled so, and read again.
+fn is_spelled_so(alloc: Global, value: u64, want: &[u8]) -> bool {
+    match spelled(alloc, value) {
+        Ok(bytes) => {
+            bytes.as_slice().starts_with(want)
+                && bytes.len() == want.len() + 1
+                && varint(bytes.as_slice()) == Some((value, want.len()))
+        }
+        Err(_) => false,
+    }
+}
+
+/// A text as a field, and a byte 9 behind it.
+fn as_field(alloc: Global, text: &[u8]) -> Result<Bytes, NoMemory> {
+    let mut bytes = Bytes::new(alloc);
+    push_field(&mut bytes, text)?;
+    bytes.push(9)?;
+    Ok(bytes)
+}
+
 #[test]
 fn varints_and_fields(rt: HostRuntime) -> Result<(), Fail> {
-    let spellings: [(u64, &[u8]); 6] = [
-        (0, &[0]),
-        (127, &[127]),
-        (128, &[128, 1]),
-        (624_485, &[0xe5, 0x8e, 0x26]),
-        (1 << 63, &[128, 128, 128, 128, 128, 128, 128, 128, 128, 1]),
-        (u64::MAX, &[255, 255, 255, 255, 255, 255, 255, 255, 255, 1]),
-    ];
-    for (value, spelling) in spellings {
-        let mut bytes = Bytes::new(rt.alloc());
-        push_varint(&mut bytes, value)?;
-        assert_eq!(rt; bytes.as_slice(), spelling, "the spelling of {value}");
-        bytes.push(7)?;
-        assert_eq!(rt;
-            varint(bytes.as_slice()),
-            Some((value, spelling.len())),
-            "{value} read again"
+    for (value, spelling) in &SPELLINGS {
+        assert!(rt;
+            is_spelled_so(rt.alloc(), *value, spelling),
+            "the spelling of {value}"
         );
     }
-    let others: [&[u8]; 6] = [
-        &[],
-        &[128],
-        &[128, 0],
-        &[255, 128, 0],
-        &[255, 255, 255, 255, 255, 255, 255, 255, 255, 2],
-        &[128, 128, 128, 128, 128, 128, 128, 128, 128, 128, 1],
-    ];
-    for bytes in others {
-        assert_eq!(rt; varint(bytes), None);
+    for bytes in &NO_SPELLINGS {
+        assert!(rt; varint(bytes) == None, "at {bytes:?}");
     }
-    let mut bytes = Bytes::new(rt.alloc());
-    push_field(&mut bytes, b"abc")?;
-    bytes.push(9)?;
-    let (part, len) = field(bytes.as_slice()).ok_or("a field")?;
-    assert_eq!(rt; part, b"abc".as_slice());
-    assert_eq!(rt; len, 4);
+    let bytes = as_field(rt.alloc(), b"abc")?;
+    assert!(rt; field(bytes.as_slice()) == Some((b"abc".as_slice(), 4)));
     assert!(rt; field(b"\x04abc").is_none());
     Ok(())
 }
@@ -92,88 +116,86 @@ fn fixed_fields_and_hashes(rt: HostRuntime) {
     }
 }
 
+/// A text, and its day or its fault.
+const DAYS: [(&'static str, Result<i32, ValueError>); 19] = [
+    ("1970-01-01", Ok(0)),
+    ("1969-12-31", Ok(-1)),
+    (" 2000-01-01\n", Ok(10957)),
+    ("2000-02-29", Ok(11016)),
+    ("0001-01-01", Ok(-719162)),
+    ("9999-12-31", Ok(2932896)),
+    ("0000-01-01", Err(ValueError::OutOfRange)),
+    ("2023-02-29", Err(ValueError::OutOfRange)),
+    ("1900-02-29", Err(ValueError::OutOfRange)),
+    ("2023-02-30", Err(ValueError::OutOfRange)),
+    ("2023-13-01", Err(ValueError::OutOfRange)),
+    ("2023-00-10", Err(ValueError::OutOfRange)),
+    ("2023-01-00", Err(ValueError::OutOfRange)),
+    ("2023-02-30x", Err(ValueError::NoValue)),
+    ("20230230", Err(ValueError::NoValue)),
+    ("10000-01-01", Err(ValueError::NoValue)),
+    ("2023-1-01", Err(ValueError::NoValue)),
+    ("2023/01/01", Err(ValueError::NoValue)),
+    ("", Err(ValueError::NoValue)),
+];
+
 #[test]
 fn reads_days(rt: HostRuntime) {
-    let cases = [
-        ("1970-01-01", Ok(0)),
-        ("1969-12-31", Ok(-1)),
-        (" 2000-01-01\n", Ok(10957)),
-        ("2000-02-29", Ok(11016)),
-        ("0001-01-01", Ok(-719162)),
-        ("9999-12-31", Ok(2932896)),
-        ("0000-01-01", Err(ValueError::OutOfRange)),
-        ("2023-02-29", Err(ValueError::OutOfRange)),
-        ("1900-02-29", Err(ValueError::OutOfRange)),
-        ("2023-02-30", Err(ValueError::OutOfRange)),
-        ("2023-13-01", Err(ValueError::OutOfRange)),
-        ("2023-00-10", Err(ValueError::OutOfRange)),
-        ("2023-01-00", Err(ValueError::OutOfRange)),
-        ("2023-02-30x", Err(ValueError::NoValue)),
-        ("20230230", Err(ValueError::NoValue)),
-        ("10000-01-01", Err(ValueError::NoValue)),
-        ("2023-1-01", Err(ValueError::NoValue)),
-        ("2023/01/01", Err(ValueError::NoValue)),
-        ("", Err(ValueError::NoValue)),
-    ];
-    for (text, want) in cases {
-        assert_eq!(rt; read_day(text), want, "at {text:?}");
+    for (text, want) in &DAYS {
+        assert!(rt; read_day(text) == *want, "at {text:?}");
     }
 }
 
-#[test]
-fn prints_days(rt: HostRuntime) -> Result<(), Fail> {
-    let mut to = Bytes::new(rt.alloc());
-    for day in [0, -1, 11016, -719162, 2932896] {
-        print_day(day, &mut to)?;
-        to.push(b' ')?;
-    }
-    assert_eq!(rt;
-        to.as_slice(),
-        b"1970-01-01 1969-12-31 2000-02-29 0001-01-01 9999-12-31 ".as_slice()
-    );
-    Ok(())
-}
+/// A text, and its number or its fault.
+const WHOLES: [(&'static str, Result<i64, ValueError>); 17] = [
+    ("0", Ok(0)),
+    (" \t\n\x0c\r-00012 ", Ok(-12)),
+    ("+7", Ok(7)),
+    ("2147483647", Ok(2147483647)),
+    ("-2147483648", Ok(-2147483648)),
+    ("2147483648", Err(ValueError::OutOfRange)),
+    ("-2147483649", Err(ValueError::OutOfRange)),
+    ("99999999999999999999999999", Err(ValueError::OutOfRange)),
+    ("", Err(ValueError::NoValue)),
+    ("-", Err(ValueError::NoValue)),
+    ("+-1", Err(ValueError::NoValue)),
+    ("1 2", Err(ValueError::NoValue)),
+    ("0x1F", Err(ValueError::NoValue)),
+    ("1_000", Err(ValueError::NoValue)),
+    ("- 1", Err(ValueError::NoValue)),
+    ("\x0b1", Err(ValueError::NoValue)),
+    ("99999999999999999999999999x", Err(ValueError::NoValue)),
+];
 
 #[test]
 fn reads_whole_numbers(rt: HostRuntime) {
-    let cases = [
-        ("0", Ok(0)),
-        (" \t\n\x0c\r-00012 ", Ok(-12)),
-        ("+7", Ok(7)),
-        ("2147483647", Ok(2147483647)),
-        ("-2147483648", Ok(-2147483648)),
-        ("2147483648", Err(ValueError::OutOfRange)),
-        ("-2147483649", Err(ValueError::OutOfRange)),
-        ("99999999999999999999999999", Err(ValueError::OutOfRange)),
-        ("", Err(ValueError::NoValue)),
-        ("-", Err(ValueError::NoValue)),
-        ("+-1", Err(ValueError::NoValue)),
-        ("1 2", Err(ValueError::NoValue)),
-        ("0x1F", Err(ValueError::NoValue)),
-        ("1_000", Err(ValueError::NoValue)),
-        ("- 1", Err(ValueError::NoValue)),
-        ("\x0b1", Err(ValueError::NoValue)),
-        ("99999999999999999999999999x", Err(ValueError::NoValue)),
-    ];
-    for (text, want) in cases {
-        assert_eq!(rt;
-            read_whole(text, -2147483648, 2147483647),
-            want,
+    for (text, want) in &WHOLES {
+        assert!(rt;
+            read_whole(text, -2147483648, 2147483647) == *want,
             "at {text:?}"
         );
     }
 }
 
-#[test]
-fn prints_whole_numbers(rt: HostRuntime) -> Result<(), Fail> {
-    let mut to = Bytes::new(rt.alloc());
-    for value in [0, -1, 42, i64::MAX, i64::MIN] {
-        print_whole(value, &mut to)?;
+/// The whole numbers as they are printed, each with a space behind it.
+fn printed(alloc: Global, numbers: &[i64]) -> Result<Bytes, NoMemory> {
+    let mut to = Bytes::new(alloc);
+    for number in numbers {
+        print_whole(*number, &mut to)?;
         to.push(b' ')?;
     }
-    assert_eq!(rt;
-        to.as_slice(),
-        b"0 -1 42 9223372036854775807 -9223372036854775808 ".as_slice()
-    );
+    Ok(to)
+}
+
+#[test]
+fn prints_days_and_whole_numbers(rt: HostRuntime) -> Result<(), Fail> {
+    let mut to = printed(rt.alloc(), &[0, -1, 42, i64::MAX, i64::MIN])?;
+    for day in [0, -1, 11016, -719162, 2932896] {
+        print_day(day, &mut to)?;
+        to.push(b' ')?;
+    }
+    let want: &[u8] = b"0 -1 42 9223372036854775807 -9223372036854775808 \
+        1970-01-01 1969-12-31 2000-02-29 0001-01-01 9999-12-31 ";
+    assert!(rt; to.as_slice() == want);
     Ok(())
 }

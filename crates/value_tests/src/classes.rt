@@ -97,9 +97,9 @@ const CLASSES: [(
 
 #[test]
 fn classes_of_types(rt: HostRuntime) {
-    for (method, kind, word, want) in CLASSES {
+    for (method, kind, word, want) in &CLASSES {
         assert!(rt;
-            class_for(method, kind, word) == want,
+            class_for(*method, *kind, *word) == *want,
             "at {method:?} {kind:?}"
         );
     }
@@ -131,9 +131,9 @@ const PARAMETERS: [(
 
 #[test]
 fn parameters_of_classes(rt: HostRuntime) {
-    for (class, given, want) in PARAMETERS {
+    for (class, given, want) in &PARAMETERS {
         assert!(rt;
-            parameter_for(class, given) == want,
+            parameter_for(*class, *given) == *want,
             "at {class:?} {given:?}"
         );
     }
@@ -203,7 +203,10 @@ const SUPPORTED: [(Class, Operator, OperandType, bool); 13] = [
 
 #[test]
 fn operators_of_classes(rt: HostRuntime) {
-    for (class, op, operand, want) in SUPPORTED {
-        assert!(rt; supports(class, op, operand) == want, "at {class:?} {op:?}");
+    for (class, op, operand, want) in &SUPPORTED {
+        assert!(rt;
+            supports(*class, *op, *operand) == *want,
+            "at {class:?} {op:?}"
+        );
     }
 }

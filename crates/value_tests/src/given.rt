@@ -1,4 +1,4 @@
-//! Literals, and what they are read as.
+//! Literals, and the values that they are.
 
 ghost use Rattle.std.specs.Prelude.{◌≡◌, IfOk};
 ghost use Rattle.gx_value.specs.Literals.{IsLiteral};
@@ -8,7 +8,6 @@ use gx_bytes::{Bytes, NoMemory, ValueError};
 use gx_intarr::Texts;
 use gx_value::{ColumnType, Form, Literal, Value, read_value};
 use std::alloc::Global;
-use std::test::Fail;
 
 /// A text.
 pub fn text_literal(alloc: Global, text: &[u8]) -> Result<Literal, NoMemory>
@@ -23,8 +22,7 @@ pub fn text_literal(alloc: Global, text: &[u8]) -> Result<Literal, NoMemory>
     })
 }
 
-/// A number.
-pub fn number_literal(alloc: Global, text: &[u8]) -> Result<Literal, NoMemory>
+fn number_literal(alloc: Global, text: &[u8]) -> Result<Literal, NoMemory>
     ensures literal { IfOk result (λ l. IsLiteral l) }
     ensures form { IfOk result (λ l. l.form ≡ Form.Number) }
 {
@@ -36,14 +34,14 @@ pub fn number_literal(alloc: Global, text: &[u8]) -> Result<Literal, NoMemory>
     })
 }
 
-/// A list of these elements.
-pub fn list_literal(alloc: Global, elements: &[&str]) -> Result<Literal, NoMemory>
+/// A list of the words of a text.
+fn list_literal(alloc: Global, text: &str) -> Result<Literal, NoMemory>
     ensures literal { IfOk result (λ l. IsLiteral l) }
     ensures form { IfOk result (λ l. l.form ≡ Form.List) }
 {
     let mut texts = Texts::new(alloc);
-    for element in elements {
-        texts.push(Bytes::from_slice(alloc, element.as_bytes())?)?;
+    for word in text.split_whitespace() {
+        texts.push(Bytes::from_slice(alloc, word.as_bytes())?)?;
     }
     Ok(Literal {
         form: Form::List,
@@ -51,24 +49,31 @@ pub fn list_literal(alloc: Global, elements: &[&str]) -> Result<Literal, NoMemor
     })
 }
 
-/// NULL.
-pub fn null_literal(alloc: Global) -> Literal
-    ensures literal { IsLiteral result }
-    ensures form { result.form ≡ Form.Null }
+/// A literal of this form: a text or a number as it is written, a list of the words of the text, or NULL.
+pub fn literal_of(alloc: Global, form: Form, text: &str) -> Result<Literal, NoMemory>
+    ensures literal { IfOk result (λ l. IsLiteral l) }
+    ensures form { IfOk result (λ l. l.form ≡ form) }
 {
-    Literal {
-        form: Form::Null,
-        texts: Texts::new(alloc),
+    match form {
+        Form::Text => text_literal(alloc, text.as_bytes()),
+        Form::Number => number_literal(alloc, text.as_bytes()),
+        Form::List => list_literal(alloc, text),
+        Form::Null => Ok(Literal {
+            form: Form::Null,
+            texts: Texts::new(alloc),
+        }),
     }
 }
 
 /// The value that a text is.
-pub fn value_of(alloc: Global, kind: ColumnType, text: &str) -> Result<Value, Fail>
+pub fn value_of(alloc: Global, kind: ColumnType, text: &str) -> Result<Value, ValueError>
     ensures { IfOk result (λ v. IsValue kind (datum_of v)) }
 {
-    let literal = text_literal(alloc, text.as_bytes())?;
+    let Ok(literal) = text_literal(alloc, text.as_bytes()) else {
+        return Err(ValueError::Memory);
+    };
     match read_value(alloc, kind, &literal)? {
         Some(value) => Ok(value),
-        None => Err(Fail::from(ValueError::NoValue)),
+        None => Err(ValueError::NoValue),
     }
 }

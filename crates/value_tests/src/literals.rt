@@ -1,92 +1,101 @@
 //! Texts, numbers and lists that a type reads or refuses.
 
-use crate::given::{list_literal, null_literal, number_literal, text_literal, value_of};
+use crate::given::{literal_of, text_literal, value_of};
 use gx_bytes::{Bytes, ValueError};
-use gx_value::{ColumnType, print_value, read_value};
+use gx_value::{ColumnType, Form, print_value, read_value};
 use std::alloc::Global;
-use std::test::Fail;
 
-fn refusal(alloc: Global, kind: ColumnType, text: &[u8]) -> Result<Option<ValueError>, Fail> {
-    let literal = text_literal(alloc, text)?;
-    Ok(read_value(alloc, kind, &literal).err())
-}
-
-/// Texts that are no value of the type.
-const NO_VALUES: [(ColumnType, &'static [u8]); 19] = [
-    (ColumnType::Int4, b"x"),
-    (ColumnType::Int4, b""),
-    (ColumnType::Int4, b"1\x0b"),
-    (ColumnType::Int8, b"1.5"),
-    (ColumnType::Text, b"\xff"),
-    (ColumnType::Bytea, b"\\x0"),
-    (ColumnType::Bytea, b"ab"),
-    (ColumnType::Date, b"2024-2-3"),
-    (ColumnType::Date, b"2023-02-30x"),
-    (ColumnType::Uuid, b"a0eebc99"),
-    (ColumnType::Int4Range, b"[5,1]"),
-    (ColumnType::Int8Range, b"[1,5"),
-    (ColumnType::DateRange, b"4"),
-    (ColumnType::Inet, b"1.2.3"),
-    (ColumnType::Inet, b"01.2.3.4"),
-    (ColumnType::Ltree, b"a..b"),
-    (ColumnType::Hstore, b"a=>"),
-    (ColumnType::Jsonb, b"{\"a\":01}"),
-    (ColumnType::Int4Array, b"{ }"),
+/// A text, and why it is no value of the type: it spells none, it is outside the type, or nested too deeply.
+const REFUSED: [(ColumnType, &'static [u8], ValueError); 35] = [
+    (ColumnType::Int4, b"x", ValueError::NoValue),
+    (ColumnType::Int4, b"", ValueError::NoValue),
+    (ColumnType::Int4, b"1\x0b", ValueError::NoValue),
+    (ColumnType::Int8, b"1.5", ValueError::NoValue),
+    (ColumnType::Text, b"\xff", ValueError::NoValue),
+    (ColumnType::Bytea, b"\\x0", ValueError::NoValue),
+    (ColumnType::Bytea, b"ab", ValueError::NoValue),
+    (ColumnType::Date, b"2024-2-3", ValueError::NoValue),
+    (ColumnType::Date, b"2023-02-30x", ValueError::NoValue),
+    (ColumnType::Uuid, b"a0eebc99", ValueError::NoValue),
+    (ColumnType::Int4Range, b"[5,1]", ValueError::NoValue),
+    (ColumnType::Int8Range, b"[1,5", ValueError::NoValue),
+    (ColumnType::DateRange, b"4", ValueError::NoValue),
+    (ColumnType::Inet, b"1.2.3", ValueError::NoValue),
+    (ColumnType::Inet, b"01.2.3.4", ValueError::NoValue),
+    (ColumnType::Ltree, b"a..b", ValueError::NoValue),
+    (ColumnType::Hstore, b"a=>", ValueError::NoValue),
+    (ColumnType::Jsonb, b"{\"a\":01}", ValueError::NoValue),
+    (ColumnType::Int4Array, b"{ }", ValueError::NoValue),
+    (ColumnType::Int4Range, b"[5,1)", ValueError::NoValue),
+    (ColumnType::Inet, b"1.2.3.4/33", ValueError::NoValue),
+    (ColumnType::Date, b"2023-2-3", ValueError::NoValue),
+    (
+        ColumnType::Jsonb,
+        b"[[[[[[[[[[[[[[[[[[[[[[[[[[[[[[[[[[[[[[[[[[[[[[[[[[[[[[[[[[[[[[[[",
+        ValueError::NoValue,
+    ),
+    (ColumnType::Int4, b"2147483648", ValueError::OutOfRange),
+    (ColumnType::Int4, b" -2147483649 ", ValueError::OutOfRange),
+    (
+        ColumnType::Int8,
+        b"9223372036854775808",
+        ValueError::OutOfRange,
+    ),
+    (ColumnType::Date, b"2023-02-29", ValueError::OutOfRange),
+    (ColumnType::Date, b"0000-01-01", ValueError::OutOfRange),
+    (
+        ColumnType::Int4Range,
+        b"[1,2147483647]",
+        ValueError::OutOfRange,
+    ),
+    (
+        ColumnType::Int8Range,
+        b"(9223372036854775807,)",
+        ValueError::OutOfRange,
+    ),
+    (
+        ColumnType::DateRange,
+        b"[2023-02-30,)",
+        ValueError::OutOfRange,
+    ),
+    (
+        ColumnType::Jsonb,
+        b"[9223372036854775808]",
+        ValueError::OutOfRange,
+    ),
+    (
+        ColumnType::Int4Array,
+        b"{2147483648,x}",
+        ValueError::OutOfRange,
+    ),
+    (ColumnType::Date, b"2023-02-30", ValueError::OutOfRange),
+    (
+        ColumnType::Jsonb,
+        b"[[[[[[[[[[[[[[[[[[[[[[[[[[[[[[[[[[[[[[[[[[[[[[[[[[[[[[[[[[[[[[[[{",
+        ValueError::TooDeep,
+    ),
 ];
 
-#[test]
-fn texts_that_are_no_value(rt: HostRuntime) -> Result<(), Fail> {
-    for (kind, text) in NO_VALUES {
-        let fault = refusal(rt.alloc(), kind, text)?;
-        assert!(rt; fault == Some(ValueError::NoValue), "at {kind:?} {text:?}");
+/// Why a text is no value of the type.
+fn refusal(alloc: Global, kind: ColumnType, text: &[u8]) -> Option<ValueError> {
+    match text_literal(alloc, text) {
+        Ok(literal) => read_value(alloc, kind, &literal).err(),
+        Err(_) => None,
     }
-    Ok(())
 }
 
-/// Texts of numbers and days that the type lacks.
-const OUTSIDE: [(ColumnType, &'static [u8]); 10] = [
-    (ColumnType::Int4, b"2147483648"),
-    (ColumnType::Int4, b" -2147483649 "),
-    (ColumnType::Int8, b"9223372036854775808"),
-    (ColumnType::Date, b"2023-02-29"),
-    (ColumnType::Date, b"0000-01-01"),
-    (ColumnType::Int4Range, b"[1,2147483647]"),
-    (ColumnType::Int8Range, b"(9223372036854775807,)"),
-    (ColumnType::DateRange, b"[2023-02-30,)"),
-    (ColumnType::Jsonb, b"[9223372036854775808]"),
-    (ColumnType::Int4Array, b"{2147483648,x}"),
-];
-
 #[test]
-fn texts_outside_their_type(rt: HostRuntime) -> Result<(), Fail> {
-    for (kind, text) in OUTSIDE {
-        let fault = refusal(rt.alloc(), kind, text)?;
+fn texts_that_are_refused(rt: HostRuntime) {
+    for (kind, text, want) in &REFUSED {
         assert!(rt;
-            fault == Some(ValueError::OutOfRange),
+            refusal(rt.alloc(), *kind, text) == Some(*want),
             "at {kind:?} {text:?}"
         );
     }
-    Ok(())
-}
-
-#[test]
-fn documents_that_are_too_deep(rt: HostRuntime) -> Result<(), Fail> {
-    let mut text = Bytes::new(rt.alloc());
-    for _ in 0..64 {
-        text.push(b'[')?;
-    }
-    assert!(rt;
-        refusal(rt.alloc(), ColumnType::Jsonb, text.as_slice())? == Some(ValueError::NoValue)
-    );
-    text.push(b'{')?;
-    assert!(rt;
-        refusal(rt.alloc(), ColumnType::Jsonb, text.as_slice())? == Some(ValueError::TooDeep)
-    );
-    Ok(())
 }
 
 /// A text of a type, and the printed text of its value.
-const PRINTED: [(ColumnType, &'static str, &'static str); 15] = [
+const PRINTED: [(ColumnType, &'static str, &'static str); 21] = [
     (ColumnType::Int4, " +5\n", "5"),
     (
         ColumnType::Int8,
@@ -122,42 +131,102 @@ const PRINTED: [(ColumnType, &'static str, &'static str); 15] = [
         "{\"a\": [true, null], \"bb\": 1}",
     ),
     (ColumnType::Int4Array, "{ 1 ,\"-2\"}", "{1,-2}"),
+    (ColumnType::Int4Range, "[1,10]", "[1,11)"),
+    (ColumnType::Bytea, "\\xDEad", "\\xdead"),
+    (
+        ColumnType::DateRange,
+        "[2024-01-01,9999-12-31]",
+        "[2024-01-01,10000-01-01)",
+    ),
+    (ColumnType::Inet, "0:0:1:0:0:0:2:0", "0:0:1::2:0"),
+    (ColumnType::Inet, "1.2.3.4/32", "1.2.3.4"),
+    (ColumnType::Inet, "::/0", "::/0"),
 ];
 
-#[test]
-fn values_are_printed(rt: HostRuntime) -> Result<(), Fail> {
-    for (kind, text, want) in PRINTED {
-        let value = value_of(rt.alloc(), kind, text)?;
-        let mut to = Bytes::new(rt.alloc());
-        print_value(kind, &value, &mut to)?;
-        assert!(rt; to.as_slice() == want.as_bytes(), "at {text}");
+/// The printed text of the value that a text is.
+fn printed(alloc: Global, kind: ColumnType, text: &str) -> Result<Bytes, ValueError> {
+    let value = value_of(alloc, kind, text)?;
+    let mut to = Bytes::new(alloc);
+    match print_value(kind, &value, &mut to) {
+        Ok(()) => Ok(to),
+        Err(_) => Err(ValueError::Memory),
     }
-    Ok(())
+}
+
+fn is_printed_so(alloc: Global, kind: ColumnType, text: &str, want: &str) -> bool {
+    match printed(alloc, kind, text) {
+        Ok(found) => found.as_slice() == want.as_bytes(),
+        Err(_) => false,
+    }
 }
 
 #[test]
-fn lists_are_arrays_alone(rt: HostRuntime) -> Result<(), Fail> {
-    let alloc = rt.alloc();
-    let numbers = list_literal(alloc, &["2", "+3", "-4"])?;
-    assert!(rt; read_value(alloc, ColumnType::Int4Array, &numbers)?.is_some());
-    assert!(rt; read_value(alloc, ColumnType::Int4, &numbers).err() == Some(ValueError::NoValue));
-    assert!(rt; read_value(alloc, ColumnType::Text, &numbers).err() == Some(ValueError::NoValue));
-    let first = list_literal(alloc, &["2147483648", "x"])?;
-    assert!(rt;
-        read_value(alloc, ColumnType::Int4Array, &first).err() == Some(ValueError::OutOfRange)
-    );
-    let last = list_literal(alloc, &["x", "2147483648"])?;
-    assert!(rt; read_value(alloc, ColumnType::Int4Array, &last).err() == Some(ValueError::NoValue));
-    Ok(())
+fn values_are_printed(rt: HostRuntime) {
+    for (kind, text, want) in &PRINTED {
+        assert!(rt; is_printed_so(rt.alloc(), *kind, text, want), "at {text}");
+    }
+}
+
+/// A literal, and whether it is a value of the type and not NULL, or why it is neither.
+const LITERALS: [(ColumnType, Form, &'static str, Result<bool, ValueError>); 12] = [
+    (ColumnType::Int4Array, Form::List, "2 +3 -4", Ok(true)),
+    (ColumnType::Int4Array, Form::List, "", Ok(true)),
+    (
+        ColumnType::Int4,
+        Form::List,
+        "2 +3 -4",
+        Err(ValueError::NoValue),
+    ),
+    (
+        ColumnType::Text,
+        Form::List,
+        "2 +3 -4",
+        Err(ValueError::NoValue),
+    ),
+    (
+        ColumnType::Int4Array,
+        Form::List,
+        "2147483648 x",
+        Err(ValueError::OutOfRange),
+    ),
+    (
+        ColumnType::Int4Array,
+        Form::List,
+        "x 2147483648",
+        Err(ValueError::NoValue),
+    ),
+    (ColumnType::Int4, Form::Number, "+007", Ok(true)),
+    (
+        ColumnType::Int4,
+        Form::Number,
+        "2147483648",
+        Err(ValueError::OutOfRange),
+    ),
+    (ColumnType::Text, Form::Number, "+007", Ok(true)),
+    (
+        ColumnType::Jsonb,
+        Form::Number,
+        "+007",
+        Err(ValueError::NoValue),
+    ),
+    (ColumnType::Int4, Form::Null, "", Ok(false)),
+    (ColumnType::Jsonb, Form::Null, "", Ok(false)),
+];
+
+/// Whether a literal is a value of the type, and not NULL.
+fn is_value(alloc: Global, kind: ColumnType, form: Form, text: &str) -> Result<bool, ValueError> {
+    let Ok(literal) = literal_of(alloc, form, text) else {
+        return Err(ValueError::Memory);
+    };
+    Ok(read_value(alloc, kind, &literal)?.is_some())
 }
 
 #[test]
-fn numbers_are_their_texts(rt: HostRuntime) -> Result<(), Fail> {
-    let alloc = rt.alloc();
-    let number = number_literal(alloc, b"+007")?;
-    assert!(rt; read_value(alloc, ColumnType::Int4, &number)?.is_some());
-    assert!(rt; read_value(alloc, ColumnType::Text, &number)?.is_some());
-    assert!(rt; read_value(alloc, ColumnType::Jsonb, &number).err() == Some(ValueError::NoValue));
-    assert!(rt; read_value(alloc, ColumnType::Int4, &null_literal(alloc))?.is_none());
-    Ok(())
+fn lists_numbers_and_null(rt: HostRuntime) {
+    for (kind, form, text, want) in &LITERALS {
+        assert!(rt;
+            is_value(rt.alloc(), *kind, *form, text) == *want,
+            "at {kind:?} {text}"
+        );
+    }
 }

@@ -5,12 +5,11 @@ ghost use Rattle.gx_opr.specs.Operands.{IsOperand};
 ghost use Rattle.gx_value.specs.Literals.{IsLiteral};
 ghost use Rattle.gx_value.specs.Operators.{is_operand};
 
-use crate::given::{list_literal, number_literal, text_literal, value_of};
-use gx_bytes::{Bytes, ValueError};
+use crate::given::{literal_of, value_of};
+use gx_bytes::ValueError;
 use gx_opr::{Operand, holds, read_operand, resolve};
-use gx_value::{ColumnType, Literal, Operator};
+use gx_value::{ColumnType, Form, Literal, OperandType, Operator};
 use std::alloc::Global;
-use std::test::Fail;
 
 /// Why a literal is no operand.
 #[derive(Clone, Copy, Debug, Drop, PartialEq, Eq)]
@@ -20,18 +19,19 @@ enum Fault {
     Value(ValueError),
 }
 
-/// The operand that a literal beside the operator is.
+/// The operand that a literal with its cast is beside the operator.
 fn operand_of(
     alloc: Global,
     column: ColumnType,
     op: Operator,
+    cast: Option<OperandType>,
     literal: &Literal,
 ) -> Result<Operand, Fault>
     requires { IsLiteral literal.now }
     ensures listed { IfOk result (λ o. is_operand column op o.kind ≡ true) }
     ensures valid { IfOk result (λ o. IsOperand o) }
 {
-    let Ok(kind) = resolve(column, op, literal.form, None) else {
+    let Ok(kind) = resolve(column, op, literal.form, cast) else {
         return Err(Fault::NoOperator);
     };
     match read_operand(alloc, kind, literal) {
@@ -41,35 +41,60 @@ fn operand_of(
     }
 }
 
-/// Whether the operator holds of the value of a text and a literal.
+/// Whether the operator holds of the value of a text and an operand that the table lists.
 fn is_so(
     alloc: Global,
     column: ColumnType,
     op: Operator,
-    value: &str,
-    literal: &Literal,
-) -> Result<bool, Fail>
-    requires { IsLiteral literal.now }
+    text: &str,
+    operand: &Operand,
+) -> Result<bool, ValueError>
+    requires listed { is_operand column op operand.now.kind ≡ true }
+    requires valid { IsOperand operand.now }
 {
-    let value = value_of(alloc, column, value)?;
-    let operand = operand_of(alloc, column, op, literal)?;
-    Ok(holds(alloc, op, &value, &operand)?)
+    let value = value_of(alloc, column, text)?;
+    match holds(alloc, op, &value, operand) {
+        Ok(answer) => Ok(answer),
+        Err(_) => Err(ValueError::Memory),
+    }
 }
 
-/// The same with a text.
-fn is_so_of_text(
-    rt: &HostRuntime,
+/// Whether the operator holds of the value of a text and a literal, or why the literal is no operand.
+fn answer(
+    alloc: Global,
     column: ColumnType,
     op: Operator,
     value: &str,
-    text: &str,
-) -> Result<bool, Fail> {
-    let literal = text_literal(rt.alloc(), text.as_bytes())?;
-    is_so(rt.alloc(), column, op, value, &literal)
+    cast: Option<OperandType>,
+    literal: &Literal,
+) -> Result<bool, Fault>
+    requires { IsLiteral literal.now }
+{
+    let operand = operand_of(alloc, column, op, cast, literal)?;
+    match is_so(alloc, column, op, value, &operand) {
+        Ok(answer) => Ok(answer),
+        Err(fault) => Err(Fault::Value(fault)),
+    }
 }
 
-/// A column, an operator, a value, an operand, and whether the operator holds.
-const SCALARS: [(ColumnType, Operator, &'static str, &'static str, bool); 8] = [
+/// The same with a literal of this form.
+fn answer_to(
+    alloc: Global,
+    column: ColumnType,
+    op: Operator,
+    value: &str,
+    form: Form,
+    text: &str,
+    cast: Option<OperandType>,
+) -> Result<bool, Fault> {
+    match literal_of(alloc, form, text) {
+        Ok(literal) => answer(alloc, column, op, value, cast, &literal),
+        Err(_) => Err(Fault::Value(ValueError::Memory)),
+    }
+}
+
+/// A column, an operator, a value, a text on the right, and whether the operator holds.
+const TEXTS: [(ColumnType, Operator, &'static str, &'static str, bool); 63] = [
     (ColumnType::Int4, Operator::Less, "-5", "5", true),
     (ColumnType::Int4, Operator::GreaterEqual, "5", "5", true),
     (
@@ -102,20 +127,262 @@ const SCALARS: [(ColumnType, Operator, &'static str, &'static str, bool); 8] = [
         "A0EEBC999C0B4EF8BB6D6BB9BD380A11",
         true,
     ),
+    (
+        ColumnType::Inet,
+        Operator::Equal,
+        "10.0.0.0/8",
+        "10.0.0.0/8",
+        true,
+    ),
+    (
+        ColumnType::Inet,
+        Operator::NotEqual,
+        "10.0.0.0/8",
+        "10.0.0.0/16",
+        true,
+    ),
+    (
+        ColumnType::Inet,
+        Operator::Less,
+        "9.255.0.0",
+        "10.0.0.0/16",
+        true,
+    ),
+    (
+        ColumnType::Inet,
+        Operator::LessEqual,
+        "10.0.0.1/16",
+        "10.0.0.0/16",
+        false,
+    ),
+    (
+        ColumnType::Inet,
+        Operator::Greater,
+        "::",
+        "255.255.255.255",
+        true,
+    ),
+    (
+        ColumnType::Inet,
+        Operator::GreaterEqual,
+        "10.0.0.1/16",
+        "10.0.0.1/16",
+        true,
+    ),
+    (
+        ColumnType::Inet,
+        Operator::Left,
+        "10.0.0.0/16",
+        "10.0.0.0/8",
+        true,
+    ),
+    (
+        ColumnType::Inet,
+        Operator::LeftEqual,
+        "10.0.0.0/8",
+        "10.0.0.0/8",
+        true,
+    ),
+    (
+        ColumnType::Inet,
+        Operator::Right,
+        "10.0.0.0/8",
+        "10.0.0.7",
+        true,
+    ),
+    (
+        ColumnType::Inet,
+        Operator::RightEqual,
+        "10.0.0.0/16",
+        "10.0.0.0/8",
+        false,
+    ),
+    (
+        ColumnType::Inet,
+        Operator::Overlaps,
+        "10.0.0.0/8",
+        "10.128.0.0/9",
+        true,
+    ),
+    (ColumnType::Ltree, Operator::Less, "a", "a.b", true),
+    (ColumnType::Ltree, Operator::LessEqual, "a.b", "a.b", true),
+    (ColumnType::Ltree, Operator::Equal, "A", "a", false),
+    (ColumnType::Ltree, Operator::GreaterEqual, "b", "a.b", true),
+    (ColumnType::Ltree, Operator::Greater, "b", "b", false),
+    (ColumnType::Ltree, Operator::Contains, "a", "a.b", true),
+    (ColumnType::Ltree, Operator::Within, "a.b", "a", true),
+    (
+        ColumnType::Ltree,
+        Operator::Matches,
+        "A.B.c",
+        "a@.*{1}.c",
+        true,
+    ),
+    (ColumnType::Ltree, Operator::Matches, "a.b", "!b.a", false),
+    (
+        ColumnType::Ltree,
+        Operator::Has,
+        "a.b",
+        "{a,\"*{2}\"}",
+        true,
+    ),
+    (ColumnType::Ltree, Operator::Has, "a.b", "{}", false),
+    (ColumnType::Ltree, Operator::Words, "a.b", "a & !c", true),
+    (ColumnType::Ltree, Operator::Words, "Abc", "ab@*", true),
+    (
+        ColumnType::Hstore,
+        Operator::Contains,
+        "a=>1,b=>NULL",
+        "b=>NULL",
+        true,
+    ),
+    (
+        ColumnType::Hstore,
+        Operator::Contains,
+        "a=>1,b=>NULL",
+        "a=>NULL",
+        false,
+    ),
+    (ColumnType::Hstore, Operator::Contains, "", "", true),
+    (ColumnType::Hstore, Operator::Has, "a=>1,b=>NULL", "b", true),
+    (
+        ColumnType::Hstore,
+        Operator::HasAll,
+        "a=>1,b=>NULL",
+        "{a,b}",
+        true,
+    ),
+    (ColumnType::Hstore, Operator::HasAll, "a=>2", "{a,b}", false),
+    (
+        ColumnType::Hstore,
+        Operator::HasAny,
+        "a=>2",
+        "{b,\"a\"}",
+        true,
+    ),
+    (ColumnType::Hstore, Operator::HasAny, "a=>2", "{}", false),
+    (
+        ColumnType::Jsonb,
+        Operator::Contains,
+        "{\"a\":[1,{\"b\":2}],\"c\":null}",
+        "{\"a\":[{\"b\":2}]}",
+        true,
+    ),
+    (
+        ColumnType::Jsonb,
+        Operator::Contains,
+        "{\"a\":[1]}",
+        "{\"a\":1}",
+        false,
+    ),
+    (ColumnType::Jsonb, Operator::Contains, "[1,2]", "2", true),
+    (ColumnType::Jsonb, Operator::Contains, "1", "[1]", false),
+    (ColumnType::Jsonb, Operator::Has, "[\"a\",\"b\"]", "a", true),
+    (ColumnType::Jsonb, Operator::Has, "\"a\"", "a", true),
+    (ColumnType::Jsonb, Operator::Has, "1", "1", false),
+    (
+        ColumnType::Jsonb,
+        Operator::HasAll,
+        "{\"a\":1,\"b\":2}",
+        "{a,b}",
+        true,
+    ),
+    (ColumnType::Jsonb, Operator::HasAll, "1", "{}", true),
+    (
+        ColumnType::Jsonb,
+        Operator::HasAny,
+        "{\"a\":1}",
+        "{b,c}",
+        false,
+    ),
+    (
+        ColumnType::Int4Array,
+        Operator::Overlaps,
+        "{1,2}",
+        "{2,9}",
+        true,
+    ),
+    (
+        ColumnType::Int4Array,
+        Operator::Overlaps,
+        "{1,2}",
+        "{}",
+        false,
+    ),
+    (
+        ColumnType::Int4Array,
+        Operator::Contains,
+        "{1,2}",
+        "{2,1,1}",
+        true,
+    ),
+    (
+        ColumnType::Int4Array,
+        Operator::Within,
+        "{2,2,1}",
+        "{3,2,1}",
+        true,
+    ),
+    (
+        ColumnType::Int4Array,
+        Operator::Equal,
+        "{2,2,1}",
+        "{1,2}",
+        false,
+    ),
+    (ColumnType::Int4Array, Operator::Equal, "{}", "{}", true),
+    (
+        ColumnType::Int4Array,
+        Operator::Formula,
+        "{-5,3}",
+        "1 & !3 | -5",
+        true,
+    ),
+    (
+        ColumnType::Int4Array,
+        Operator::Formula,
+        "{1,2}",
+        "(1|3)&!2",
+        false,
+    ),
+    (
+        ColumnType::DateRange,
+        Operator::Equal,
+        "[2024-02-28,2024-02-29]",
+        "[2024-02-28,2024-03-01)",
+        true,
+    ),
+    (
+        ColumnType::DateRange,
+        Operator::Overlaps,
+        "[2024-02-28,2024-03-01)",
+        "[2024-03-01,)",
+        false,
+    ),
+    (
+        ColumnType::DateRange,
+        Operator::Adjacent,
+        "[2024-02-28,2024-03-01)",
+        "[2024-03-01,)",
+        true,
+    ),
+    (
+        ColumnType::DateRange,
+        Operator::Contains,
+        "[2024-02-28,2024-03-01)",
+        "[2024-02-29,2024-02-29]",
+        true,
+    ),
+    (
+        ColumnType::Int8,
+        Operator::LessEqual,
+        "2147483648",
+        "9223372036854775807",
+        true,
+    ),
 ];
 
-#[test]
-fn scalars(rt: HostRuntime) -> Result<(), Fail> {
-    for (column, op, value, text, want) in SCALARS {
-        assert!(rt;
-            is_so_of_text(&rt, column, op, value, text)? == want,
-            "at {value} {op:?} {text}"
-        );
-    }
-    Ok(())
-}
-
-/// An operator, a value, an operand, and whether the operator holds.
+/// The same of ranges of numbers.
 const RANGES: [(Operator, &'static str, &'static str, bool); 10] = [
     (Operator::Equal, "[1,5)", "[1,4]", true),
     (Operator::Overlaps, "[1,5)", "[4,9)", true),
@@ -130,305 +397,306 @@ const RANGES: [(Operator, &'static str, &'static str, bool); 10] = [
 ];
 
 #[test]
-fn ranges(rt: HostRuntime) -> Result<(), Fail> {
-    for (op, value, text, want) in RANGES {
-        assert!(rt;
-            is_so_of_text(&rt, ColumnType::Int4Range, op, value, text)? == want,
-            "at {value} {op:?} {text}"
-        );
-        assert!(rt;
-            is_so_of_text(&rt, ColumnType::Int8Range, op, value, text)? == want,
-            "at {value} {op:?} {text}"
-        );
+fn operators_and_texts(rt: HostRuntime) {
+    for (column, op, value, text, want) in &TEXTS {
+        let found = answer_to(rt.alloc(), *column, *op, value, Form::Text, text, None);
+        assert!(rt; found == Ok(*want), "at {value} {op:?} {text}");
     }
-    let days = "[2024-02-28,2024-03-01)";
-    assert!(rt;
-        is_so_of_text(
-            &rt,
-            ColumnType::DateRange,
-            Operator::Contains,
-            days,
-            "[2024-02-29,2024-02-29]"
-        )?
-    );
-    Ok(())
-}
-
-#[test]
-fn elements_of_ranges(rt: HostRuntime) -> Result<(), Fail> {
-    let alloc = rt.alloc();
-    let four = number_literal(alloc, b"4")?;
-    assert!(rt;
-        is_so(
-            alloc,
-            ColumnType::Int4Range,
-            Operator::Contains,
-            "[1,5)",
-            &four
-        )?
-    );
-    assert!(rt;
-        !is_so(
-            alloc,
-            ColumnType::Int4Range,
-            Operator::Contains,
-            "[1,4)",
-            &four
-        )?
-    );
-    let large = number_literal(alloc, b"2147483648")?;
-    assert!(rt;
-        is_so(
-            alloc,
-            ColumnType::Int8Range,
-            Operator::Contains,
-            "(,)",
-            &large
-        )?
-    );
-    let refused = operand_of(alloc, ColumnType::Int4Range, Operator::Contains, &large).err();
-    assert!(rt; refused == Some(Fault::Value(ValueError::OutOfRange)));
-    let refused = operand_of(alloc, ColumnType::DateRange, Operator::Contains, &four).err();
-    assert!(rt; refused == Some(Fault::Value(ValueError::NoValue)));
-    Ok(())
-}
-
-/// An operator, a value, an operand, and whether the operator holds.
-const NETWORKS: [(Operator, &'static str, &'static str, bool); 11] = [
-    (Operator::Equal, "10.0.0.0/8", "10.0.0.0/8", true),
-    (Operator::NotEqual, "10.0.0.0/8", "10.0.0.0/16", true),
-    (Operator::Less, "9.255.0.0", "10.0.0.0/16", true),
-    (Operator::LessEqual, "10.0.0.1/16", "10.0.0.0/16", false),
-    (Operator::Greater, "::", "255.255.255.255", true),
-    (Operator::GreaterEqual, "10.0.0.1/16", "10.0.0.1/16", true),
-    (Operator::Left, "10.0.0.0/16", "10.0.0.0/8", true),
-    (Operator::LeftEqual, "10.0.0.0/8", "10.0.0.0/8", true),
-    (Operator::Right, "10.0.0.0/8", "10.0.0.7", true),
-    (Operator::RightEqual, "10.0.0.0/16", "10.0.0.0/8", false),
-    (Operator::Overlaps, "10.0.0.0/8", "10.128.0.0/9", true),
-];
-
-#[test]
-fn networks(rt: HostRuntime) -> Result<(), Fail> {
-    for (op, value, text, want) in NETWORKS {
-        assert!(rt;
-            is_so_of_text(&rt, ColumnType::Inet, op, value, text)? == want,
-            "at {value} {op:?} {text}"
-        );
+    for (op, value, text, want) in &RANGES {
+        for column in [ColumnType::Int4Range, ColumnType::Int8Range] {
+            let found = answer_to(rt.alloc(), column, *op, value, Form::Text, text, None);
+            assert!(rt; found == Ok(*want), "at {value} {op:?} {text}");
+        }
     }
-    Ok(())
 }
 
-/// An operator, a value, an operand, and whether the operator holds.
-const PATHS: [(Operator, &'static str, &'static str, bool); 13] = [
-    (Operator::Less, "a", "a.b", true),
-    (Operator::LessEqual, "a.b", "a.b", true),
-    (Operator::Equal, "A", "a", false),
-    (Operator::GreaterEqual, "b", "a.b", true),
-    (Operator::Greater, "b", "b", false),
-    (Operator::Contains, "a", "a.b", true),
-    (Operator::Within, "a.b", "a", true),
-    (Operator::Matches, "A.B.c", "a@.*{1}.c", true),
-    (Operator::Matches, "a.b", "!b.a", false),
-    (Operator::Has, "a.b", "{a,\"*{2}\"}", true),
-    (Operator::Has, "a.b", "{}", false),
-    (Operator::Words, "a.b", "a & !c", true),
-    (Operator::Words, "Abc", "ab@*", true),
-];
-
-#[test]
-fn paths(rt: HostRuntime) -> Result<(), Fail> {
-    for (op, value, text, want) in PATHS {
-        assert!(rt;
-            is_so_of_text(&rt, ColumnType::Ltree, op, value, text)? == want,
-            "at {value} {op:?} {text}"
-        );
-    }
-    let queries = list_literal(rt.alloc(), &["b.*", "*.b"])?;
-    assert!(rt;
-        is_so(
-            rt.alloc(),
-            ColumnType::Ltree,
-            Operator::Has,
-            "a.b",
-            &queries
-        )?
-    );
-    Ok(())
-}
-
-/// An operator, a value, an operand, and whether the operator holds.
-const MAPS: [(Operator, &'static str, &'static str, bool); 8] = [
-    (Operator::Contains, "a=>1,b=>NULL", "b=>NULL", true),
-    (Operator::Contains, "a=>1,b=>NULL", "a=>NULL", false),
-    (Operator::Contains, "", "", true),
-    (Operator::Has, "a=>1,b=>NULL", "b", true),
-    (Operator::HasAll, "a=>1,b=>NULL", "{a,b}", true),
-    (Operator::HasAll, "a=>2", "{a,b}", false),
-    (Operator::HasAny, "a=>2", "{b,\"a\"}", true),
-    (Operator::HasAny, "a=>2", "{}", false),
-];
-
-#[test]
-fn maps(rt: HostRuntime) -> Result<(), Fail> {
-    for (op, value, text, want) in MAPS {
-        assert!(rt;
-            is_so_of_text(&rt, ColumnType::Hstore, op, value, text)? == want,
-            "at {value} {op:?} {text}"
-        );
-    }
-    let keys = list_literal(rt.alloc(), &["x", "b"])?;
-    assert!(rt;
-        is_so(
-            rt.alloc(),
-            ColumnType::Hstore,
-            Operator::HasAny,
-            "b=>1",
-            &keys
-        )?
-    );
-    Ok(())
-}
-
-/// An operator, a value, an operand, and whether the operator holds.
-const DOCUMENTS: [(Operator, &'static str, &'static str, bool); 10] = [
-    (
-        Operator::Contains,
-        "{\"a\":[1,{\"b\":2}],\"c\":null}",
-        "{\"a\":[{\"b\":2}]}",
-        true,
-    ),
-    (Operator::Contains, "{\"a\":[1]}", "{\"a\":1}", false),
-    (Operator::Contains, "[1,2]", "2", true),
-    (Operator::Contains, "1", "[1]", false),
-    (Operator::Has, "[\"a\",\"b\"]", "a", true),
-    (Operator::Has, "\"a\"", "a", true),
-    (Operator::Has, "1", "1", false),
-    (Operator::HasAll, "{\"a\":1,\"b\":2}", "{a,b}", true),
-    (Operator::HasAll, "1", "{}", true),
-    (Operator::HasAny, "{\"a\":1}", "{b,c}", false),
-];
-
-#[test]
-fn documents(rt: HostRuntime) -> Result<(), Fail> {
-    for (op, value, text, want) in DOCUMENTS {
-        assert!(rt;
-            is_so_of_text(&rt, ColumnType::Jsonb, op, value, text)? == want,
-            "at {value} {op:?} {text}"
-        );
-    }
-    Ok(())
-}
-
-/// An operator, a value, an operand, and whether the operator holds.
-const ARRAYS: [(Operator, &'static str, &'static str, bool); 8] = [
-    (Operator::Overlaps, "{1,2}", "{2,9}", true),
-    (Operator::Overlaps, "{1,2}", "{}", false),
-    (Operator::Contains, "{1,2}", "{2,1,1}", true),
-    (Operator::Within, "{2,2,1}", "{3,2,1}", true),
-    (Operator::Equal, "{2,2,1}", "{1,2}", false),
-    (Operator::Equal, "{}", "{}", true),
-    (Operator::Formula, "{-5,3}", "1 & !3 | -5", true),
-    (Operator::Formula, "{1,2}", "(1|3)&!2", false),
-];
-
-#[test]
-fn arrays(rt: HostRuntime) -> Result<(), Fail> {
-    for (op, value, text, want) in ARRAYS {
-        assert!(rt;
-            is_so_of_text(&rt, ColumnType::Int4Array, op, value, text)? == want,
-            "at {value} {op:?} {text}"
-        );
-    }
-    let numbers = list_literal(rt.alloc(), &["2", "2", "1"])?;
-    assert!(rt;
-        is_so(
-            rt.alloc(),
-            ColumnType::Int4Array,
-            Operator::Equal,
-            "{2,2,1}",
-            &numbers
-        )?
-    );
-    Ok(())
-}
-
-/// A column, an operator, a text, and why it is no operand.
-const REFUSED: [(ColumnType, Operator, &'static str, Fault); 9] = [
+/// A column, an operator, a value, a literal with its cast, and whether the operator holds or why the literal is
+/// no operand.
+const LITERALS: [(
+    ColumnType,
+    Operator,
+    &'static str,
+    Form,
+    &'static str,
+    Option<OperandType>,
+    Result<bool, Fault>,
+); 30] = [
     (
         ColumnType::Int4Array,
         Operator::Formula,
+        "{}",
+        Form::Text,
         "",
-        Fault::Value(ValueError::NoValue),
+        None,
+        Err(Fault::Value(ValueError::NoValue)),
     ),
     (
         ColumnType::Int4Array,
         Operator::Formula,
+        "{}",
+        Form::Text,
         "+1",
-        Fault::Value(ValueError::NoValue),
+        None,
+        Err(Fault::Value(ValueError::NoValue)),
     ),
     (
         ColumnType::Int4Array,
         Operator::Formula,
+        "{}",
+        Form::Text,
         "2147483648",
-        Fault::Value(ValueError::OutOfRange),
+        None,
+        Err(Fault::Value(ValueError::OutOfRange)),
     ),
     (
         ColumnType::Hstore,
         Operator::HasAll,
+        "",
+        Form::Text,
         "{a,NULL}",
-        Fault::Value(ValueError::NoValue),
+        None,
+        Err(Fault::Value(ValueError::NoValue)),
     ),
     (
         ColumnType::Ltree,
         Operator::Has,
+        "",
+        Form::Text,
         "{a,!}",
-        Fault::Value(ValueError::NoValue),
+        None,
+        Err(Fault::Value(ValueError::NoValue)),
     ),
     (
         ColumnType::Ltree,
         Operator::Words,
+        "",
+        Form::Text,
         "a &",
-        Fault::Value(ValueError::NoValue),
+        None,
+        Err(Fault::Value(ValueError::NoValue)),
     ),
     (
         ColumnType::Ltree,
         Operator::Matches,
+        "",
+        Form::Text,
         "a{2,1}",
-        Fault::Value(ValueError::NoValue),
+        None,
+        Err(Fault::Value(ValueError::NoValue)),
     ),
     (
         ColumnType::Int8,
         Operator::Equal,
+        "1",
+        Form::Text,
         "9223372036854775808",
-        Fault::Value(ValueError::OutOfRange),
+        None,
+        Err(Fault::Value(ValueError::OutOfRange)),
     ),
-    (ColumnType::Int4, Operator::Formula, "1", Fault::NoOperator),
+    (
+        ColumnType::Int4,
+        Operator::Formula,
+        "1",
+        Form::Text,
+        "1",
+        None,
+        Err(Fault::NoOperator),
+    ),
+    (
+        ColumnType::Int4Range,
+        Operator::Contains,
+        "[1,5)",
+        Form::Number,
+        "4",
+        None,
+        Ok(true),
+    ),
+    (
+        ColumnType::Int4Range,
+        Operator::Contains,
+        "[1,4)",
+        Form::Number,
+        "4",
+        None,
+        Ok(false),
+    ),
+    (
+        ColumnType::Int4Range,
+        Operator::Contains,
+        "[1,5)",
+        Form::Text,
+        "4",
+        Some(OperandType::Int4),
+        Ok(true),
+    ),
+    (
+        ColumnType::Int8Range,
+        Operator::Contains,
+        "(,)",
+        Form::Number,
+        "2147483648",
+        None,
+        Ok(true),
+    ),
+    (
+        ColumnType::Int4Range,
+        Operator::Contains,
+        "(,)",
+        Form::Number,
+        "2147483648",
+        None,
+        Err(Fault::Value(ValueError::OutOfRange)),
+    ),
+    (
+        ColumnType::DateRange,
+        Operator::Contains,
+        "(,)",
+        Form::Number,
+        "4",
+        None,
+        Err(Fault::Value(ValueError::NoValue)),
+    ),
+    (
+        ColumnType::DateRange,
+        Operator::Contains,
+        "[2024-02-28,2024-03-01)",
+        Form::Text,
+        "2024-02-29",
+        Some(OperandType::Date),
+        Ok(true),
+    ),
+    (
+        ColumnType::DateRange,
+        Operator::Contains,
+        "[2024-02-28,2024-03-01)",
+        Form::Text,
+        "2024-03-01",
+        Some(OperandType::Date),
+        Ok(false),
+    ),
+    (
+        ColumnType::Int8Range,
+        Operator::Contains,
+        "[1,9)",
+        Form::Text,
+        "5",
+        None,
+        Err(Fault::Value(ValueError::NoValue)),
+    ),
+    (
+        ColumnType::Int8Range,
+        Operator::Contains,
+        "[1,9)",
+        Form::Number,
+        "5",
+        Some(OperandType::Int4),
+        Err(Fault::NoOperator),
+    ),
+    (
+        ColumnType::Int4,
+        Operator::Contains,
+        "1",
+        Form::Number,
+        "1",
+        None,
+        Err(Fault::NoOperator),
+    ),
+    (
+        ColumnType::Int4,
+        Operator::Contains,
+        "1",
+        Form::Null,
+        "",
+        None,
+        Err(Fault::NoOperator),
+    ),
+    (
+        ColumnType::Int4,
+        Operator::Equal,
+        "1",
+        Form::Null,
+        "",
+        None,
+        Err(Fault::Null),
+    ),
+    (
+        ColumnType::Ltree,
+        Operator::Has,
+        "a.b",
+        Form::List,
+        "b.* *.b",
+        None,
+        Ok(true),
+    ),
+    (
+        ColumnType::Hstore,
+        Operator::HasAny,
+        "b=>1",
+        Form::List,
+        "x b",
+        None,
+        Ok(true),
+    ),
+    (
+        ColumnType::Hstore,
+        Operator::HasAll,
+        "a=>1",
+        Form::List,
+        "",
+        None,
+        Ok(true),
+    ),
+    (
+        ColumnType::Hstore,
+        Operator::Contains,
+        "a=>1",
+        Form::List,
+        "a",
+        None,
+        Err(Fault::NoOperator),
+    ),
+    (
+        ColumnType::Jsonb,
+        Operator::HasAll,
+        "[\"a\",\"b\"]",
+        Form::List,
+        "a b",
+        None,
+        Ok(true),
+    ),
+    (
+        ColumnType::Int4Array,
+        Operator::Equal,
+        "{2,2,1}",
+        Form::List,
+        "2 2 1",
+        None,
+        Ok(true),
+    ),
+    (
+        ColumnType::Int4Array,
+        Operator::Formula,
+        "{1}",
+        Form::Text,
+        "!!!!!!!!!!!!!!!!!!!!!!!!!!!!!!!!!!!!!!!!!!!!!!!!!!!!!!!!!!!!!!!!",
+        None,
+        Err(Fault::Value(ValueError::NoValue)),
+    ),
+    (
+        ColumnType::Int4Array,
+        Operator::Formula,
+        "{1}",
+        Form::Text,
+        "!!!!!!!!!!!!!!!!!!!!!!!!!!!!!!!!!!!!!!!!!!!!!!!!!!!!!!!!!!!!!!!!(",
+        None,
+        Err(Fault::Value(ValueError::TooDeep)),
+    ),
 ];
 
 #[test]
-fn operands_that_are_refused(rt: HostRuntime) -> Result<(), Fail> {
-    for (column, op, text, want) in REFUSED {
-        let literal = text_literal(rt.alloc(), text.as_bytes())?;
-        let refused = operand_of(rt.alloc(), column, op, &literal).err();
-        assert!(rt; refused == Some(want), "at {op:?} {text}");
+fn operators_and_literals(rt: HostRuntime) {
+    for (column, op, value, form, text, cast, want) in &LITERALS {
+        let found = answer_to(rt.alloc(), *column, *op, value, *form, text, *cast);
+        assert!(rt; found == *want, "at {value} {op:?} {text}");
     }
-    Ok(())
-}
-
-#[test]
-fn formulas_that_are_too_deep(rt: HostRuntime) -> Result<(), Fail> {
-    let mut text = Bytes::new(rt.alloc());
-    for _ in 0..64 {
-        text.push(b'!')?;
-    }
-    let column = ColumnType::Int4Array;
-    let open = text_literal(rt.alloc(), text.as_slice())?;
-    let refused = operand_of(rt.alloc(), column, Operator::Formula, &open).err();
-    assert!(rt; refused == Some(Fault::Value(ValueError::NoValue)));
-    text.push(b'(')?;
-    let deep = text_literal(rt.alloc(), text.as_slice())?;
-    let refused = operand_of(rt.alloc(), column, Operator::Formula, &deep).err();
-    assert!(rt; refused == Some(Fault::Value(ValueError::TooDeep)));
-    Ok(())
 }

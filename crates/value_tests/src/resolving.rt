@@ -3,226 +3,238 @@
 use gx_opr::{NoOperator, resolve};
 use gx_value::{ColumnType, Form, OperandType, Operator};
 
-/// A column, an operator, the form of a literal, and what it is taken for.
-const UNCAST: [(ColumnType, Operator, Form, Result<OperandType, NoOperator>); 18] = [
+/// A column, an operator, the form of a literal, its cast, and what it is taken for.
+const RESOLVED: [(
+    ColumnType,
+    Operator,
+    Form,
+    Option<OperandType>,
+    Result<OperandType, NoOperator>,
+); 31] = [
     (
         ColumnType::Int4,
         Operator::Equal,
         Form::Text,
+        None,
         Ok(OperandType::Int4),
     ),
     (
         ColumnType::Int4,
         Operator::Contains,
         Form::Text,
+        None,
         Err(NoOperator),
     ),
     (
         ColumnType::Int4,
         Operator::Contains,
         Form::Null,
+        None,
         Err(NoOperator),
     ),
     (
         ColumnType::Int4,
         Operator::Equal,
         Form::List,
+        None,
         Err(NoOperator),
     ),
     (
         ColumnType::Int4Range,
         Operator::Contains,
         Form::Number,
+        None,
         Ok(OperandType::Int4),
     ),
     (
         ColumnType::Int4Range,
         Operator::Contains,
         Form::Text,
+        None,
         Ok(OperandType::Int4Range),
     ),
     (
         ColumnType::Int4Range,
         Operator::Contains,
         Form::Null,
+        None,
         Ok(OperandType::Int4Range),
     ),
     (
         ColumnType::Int8Range,
         Operator::Contains,
         Form::Number,
+        None,
         Ok(OperandType::Int8),
     ),
     (
         ColumnType::Int8Range,
         Operator::Within,
         Form::Number,
+        None,
         Ok(OperandType::Int8Range),
     ),
     (
         ColumnType::DateRange,
         Operator::Contains,
         Form::Number,
+        None,
         Ok(OperandType::DateRange),
     ),
     (
         ColumnType::Int4Range,
         Operator::NotEqual,
         Form::Text,
+        None,
         Err(NoOperator),
     ),
     (
         ColumnType::Int4Array,
         Operator::Equal,
         Form::List,
+        None,
         Ok(OperandType::Int4Array),
     ),
     (
         ColumnType::Int4Array,
         Operator::Contains,
         Form::Number,
+        None,
         Ok(OperandType::Int4Array),
     ),
     (
         ColumnType::Int4Array,
         Operator::Formula,
         Form::List,
+        None,
         Err(NoOperator),
     ),
     (
         ColumnType::Hstore,
         Operator::HasAny,
         Form::List,
+        None,
         Ok(OperandType::TextArray),
     ),
     (
         ColumnType::Hstore,
         Operator::Has,
         Form::List,
+        None,
         Err(NoOperator),
     ),
     (
         ColumnType::Ltree,
         Operator::Has,
         Form::List,
+        None,
         Ok(OperandType::LqueryArray),
     ),
     (
         ColumnType::Ltree,
         Operator::Matches,
         Form::List,
+        None,
         Err(NoOperator),
     ),
-];
-
-#[test]
-fn literals_without_a_cast(rt: HostRuntime) {
-    for (column, op, form, want) in UNCAST {
-        assert!(rt;
-            resolve(column, op, form, None) == want,
-            "at {column:?} {op:?} {form:?}"
-        );
-    }
-}
-
-/// A column, an operator, the form of a literal, its cast, and whether the table of operators lists it.
-const CAST: [(ColumnType, Operator, Form, OperandType, bool); 12] = [
     (
         ColumnType::Int4,
         Operator::Equal,
         Form::Text,
-        OperandType::Int8,
-        false,
+        Some(OperandType::Int8),
+        Err(NoOperator),
     ),
     (
         ColumnType::Int4,
         Operator::Equal,
         Form::Null,
-        OperandType::Int4,
-        true,
+        Some(OperandType::Int4),
+        Ok(OperandType::Int4),
     ),
     (
         ColumnType::Int4Range,
         Operator::Contains,
         Form::Number,
-        OperandType::Int4Range,
-        true,
+        Some(OperandType::Int4Range),
+        Ok(OperandType::Int4Range),
     ),
     (
         ColumnType::Int4Range,
         Operator::Contains,
         Form::Text,
-        OperandType::Int4,
-        true,
+        Some(OperandType::Int4),
+        Ok(OperandType::Int4),
     ),
     (
         ColumnType::Int4Range,
         Operator::Contains,
         Form::Number,
-        OperandType::Int8,
-        false,
+        Some(OperandType::Int8),
+        Err(NoOperator),
     ),
     (
         ColumnType::Int8Range,
         Operator::Contains,
         Form::Number,
-        OperandType::Int4,
-        false,
+        Some(OperandType::Int4),
+        Err(NoOperator),
     ),
     (
         ColumnType::DateRange,
         Operator::Contains,
         Form::Text,
-        OperandType::Date,
-        true,
+        Some(OperandType::Date),
+        Ok(OperandType::Date),
     ),
     (
         ColumnType::Ltree,
         Operator::Matches,
         Form::Text,
-        OperandType::Lquery,
-        true,
+        Some(OperandType::Lquery),
+        Ok(OperandType::Lquery),
     ),
     (
         ColumnType::Ltree,
         Operator::Has,
         Form::Text,
-        OperandType::Lquery,
-        false,
+        Some(OperandType::Lquery),
+        Err(NoOperator),
     ),
     (
         ColumnType::Int4Array,
         Operator::Formula,
         Form::Text,
-        OperandType::Int4Array,
-        false,
+        Some(OperandType::Int4Array),
+        Err(NoOperator),
     ),
     (
         ColumnType::Int4Array,
         Operator::Equal,
         Form::List,
-        OperandType::Int4Array,
-        true,
+        Some(OperandType::Int4Array),
+        Ok(OperandType::Int4Array),
     ),
     (
         ColumnType::Int4,
         Operator::Equal,
         Form::List,
-        OperandType::Int4,
-        false,
+        Some(OperandType::Int4),
+        Err(NoOperator),
+    ),
+    (
+        ColumnType::Int4,
+        Operator::Contains,
+        Form::Number,
+        None,
+        Err(NoOperator),
     ),
 ];
 
 #[test]
-fn literals_with_a_cast(rt: HostRuntime) {
-    for (column, op, form, cast, is_listed) in CAST {
-        let found = resolve(column, op, form, Some(cast));
+fn literals_are_taken_for_types(rt: HostRuntime) {
+    for (column, op, form, cast, want) in &RESOLVED {
         assert!(rt;
-            (found == Ok(cast)) == is_listed,
-            "at {column:?} {op:?} {form:?} {cast:?}"
-        );
-        assert!(rt;
-            (found == Err(NoOperator)) != is_listed,
+            resolve(*column, *op, *form, *cast) == *want,
             "at {column:?} {op:?} {form:?} {cast:?}"
         );
     }
