@@ -8,7 +8,9 @@ mod language;
 mod pages;
 mod texts;
 
-use std::rt::Clock;
+use bench_rows::rows;
+use bench_storage::{commits, fetches};
+use std::rt::{Clock, Files};
 use std::{env, io};
 
 const HELP: &str = "\
@@ -19,17 +21,58 @@ usage: bench NAME ..
   texts   100,000 times each: read a text of a type, and print its value
   growth  operators on two equal values that grow tenfold
   language  scripts up to 1 MiB: cut and parse, beside a plain pass; and hostile ones
+and on a file that is made anew:
+  fetches FILE  a million fetches of pages: from memory, the pages since a checkpoint, the cache, the file
+  commits FILE  2,000 commits of one page
+  rows FILE     100,000 rows added, scanned and looked up, on pages in memory and on the file
 ";
+
+/// A benchmark on a file, whose path is the next word.
+#[derive(Clone, Copy)]
+enum OnFile {
+    Fetches,
+    Commits,
+    Rows,
+}
 
 fn main(rt: HostRuntime) -> io::Result<()> {
     let mut words = env::args(&rt)?.skip(1).peekable();
     if words.peek().is_none() {
         rt.print(HELP)?;
     }
+    let mut waiting = None;
     for word in words {
-        run(&rt, word.as_str())?;
+        waiting = match waiting {
+            Some(work) => on_file(&rt, work, word.as_str())?,
+            None => named(&rt, word.as_str())?,
+        };
     }
     Ok(())
+}
+
+/// Runs the benchmark of this name, or tells which one waits for its file.
+fn named<R: Clock + Print + AllocGlobal>(rt: &R, name: &str) -> io::Result<Option<OnFile>> {
+    match name {
+        "fetches" => return Ok(Some(OnFile::Fetches)),
+        "commits" => return Ok(Some(OnFile::Commits)),
+        "rows" => return Ok(Some(OnFile::Rows)),
+        _ => run(rt, name)?,
+    }
+    Ok(None)
+}
+
+/// Runs a benchmark on the file at this path; then none waits.
+fn on_file<R: Clock + Files + Print + AllocGlobal>(
+    rt: &R,
+    work: OnFile,
+    path: &str,
+) -> io::Result<Option<OnFile>> {
+    match work {
+        OnFile::Fetches => fetches(rt, path)?,
+        OnFile::Commits => commits(rt, path)?,
+        OnFile::Rows => rows(rt, path)?,
+    }
+    Ok(None)
 }
 
 /// Runs the benchmark of this name.

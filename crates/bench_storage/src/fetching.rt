@@ -71,13 +71,15 @@ fn measure<R: Clock + Print, P: Pages>(
     println!(rt; "{name}: {took} ({fetched} fetched)")
 }
 
-/// Fetches the pages from 2 on, so many in turn, and tells how many fetches gave a page.
+/// Fetches the pages from 2 on, so many in turn, and tells how many fetches gave a page with the byte that it is filled with.
 fn fetch_in_turn<P: Pages>(pages: &mut P, many: u64) -> u64 {
     let mut into = Page::zero();
     let mut fetched = 0u64;
     for round in 0..ROUNDS {
-        let page = round.checked_rem(many).unwrap_or(0).wrapping_add(2);
-        fetched = fetched.wrapping_add(u64::from(pages.fetch(page, &mut into).is_ok()));
+        let number = round.checked_rem(many).unwrap_or(0);
+        let found = pages.fetch(number.wrapping_add(2), &mut into).is_ok();
+        let byte = into.bytes()[round as usize % 8192];
+        fetched = fetched.wrapping_add(u64::from(found && byte == (number % 250) as u8));
     }
     fetched
 }
