@@ -10,6 +10,7 @@ mod texts;
 
 use bench_rows::rows;
 use bench_storage::{commits, fetches};
+use bench_trees::trees;
 use std::rt::{Clock, Files};
 use std::{env, io};
 
@@ -21,6 +22,7 @@ usage: bench NAME ..
   texts   100,000 times each: read a text of a type, and print its value
   growth  operators on two equal values that grow tenfold
   language  scripts up to 1 MiB: cut and parse, beside a plain pass; and hostile ones
+  trees   10,000 to 1,000,000 rows inserted into trees of keys of classes, in memory, and 1,000 searches
 and on a file that is made anew:
   fetches FILE  a million fetches of pages: from memory, the pages since a checkpoint, the cache, the file
   commits FILE  2,000 commits of one page
@@ -84,6 +86,7 @@ fn run<R: Clock + Print + AllocGlobal>(rt: &R, name: &str) -> io::Result<()> {
         "texts" => texts::run(rt),
         "growth" => growth::run(rt),
         "language" => language::run(rt),
+        "trees" => trees(rt),
         _ => rt.print(HELP),
     }
 }
