@@ -10,6 +10,6 @@ mod text;
 
 pub use laws::{decided, one_operand};
 pub use operand::{Operand, Part};
-pub use operators::holds;
+pub use operators::{holds, inet_op, ltree_op, range_op, scalar_op};
 pub use resolving::{NoOperator, resolve};
 pub use text::read_operand;

@@ -155,7 +155,8 @@ fn json_holds(op: Operator, value: &Json, part: &Part) -> bool
     }
 }
 
-fn scalar_op(op: Operator) -> Option<ScalarOp>
+/// The operator as scalars name it; `None` where they lack it.
+pub fn scalar_op(op: Operator) -> Option<ScalarOp>
     ensures { result ≡ scalar_op op }
 {
     match op {
@@ -169,7 +170,8 @@ fn scalar_op(op: Operator) -> Option<ScalarOp>
     }
 }
 
-fn range_op(op: Operator) -> Option<RangeOp>
+/// The operator as ranges name it; `None` where they lack it.
+pub fn range_op(op: Operator) -> Option<RangeOp>
     ensures { result ≡ range_op op }
 {
     match op {
@@ -186,7 +188,8 @@ fn range_op(op: Operator) -> Option<RangeOp>
     }
 }
 
-fn inet_op(op: Operator) -> Option<InetOp>
+/// The operator as addresses name it; `None` where they lack it.
+pub fn inet_op(op: Operator) -> Option<InetOp>
     ensures { result ≡ inet_op op }
 {
     match op {
@@ -205,7 +208,8 @@ fn inet_op(op: Operator) -> Option<InetOp>
     }
 }
 
-fn ltree_op(op: Operator) -> Option<LtreeOp>
+/// The operator between label paths as they name it; `None` where they lack it.
+pub fn ltree_op(op: Operator) -> Option<LtreeOp>
     ensures { result ≡ ltree_op op }
 {
     match op {
