@@ -1,20 +1,17 @@
 -- A posting tree with one more row.
-use Rattle.std.proofs.Common.{◌≡◌, ◌≢◌, ℕ, zero, suc, ◌+◌, ◌^◌, ◌<◌, ◌≤◌, List, [], ◌∷◌, ◌++◌, length, Option, Some, None, refl, sym, ◌∙◌, ap, subst, append_assoc, append-nil, length-append, arith}
+use Rattle.std.proofs.Common.{◌≡◌, ℕ, ◌<◌, List, [], ◌∷◌, ◌++◌, None, refl, sym, ◌∙◌, ap, subst, append_assoc, append-nil, arith}
 use Rattle.std.specs.List.{AllByRecursion}
-use Rattle.gx_bytes.specs.Fields.{le64}
 use Rattle.gx_pages.specs.declared.row.RowRef.{RowRef}
 use Rattle.gx_pages.specs.declared.store.Pages.{Ghosts}
 use Rattle.gx_pages.specs.Footprints.{KeepsPages}
 use Rattle.gx_pages.specs.Rows.{AreBelow, IsRising}
 use Rattle.gx_pages.proofs.Footprints as feet_of
 use Rattle.gx_pages.proofs.Rising.{rising_push}
-use Rattle.gx_posting.specs.Postings.{Spells}
 use Rattle.gx_posting.proofs.PostingFacts.{one_spelled}
 use Rattle.gx_tree.specs.Changing.{Changed, Edited}
-use Rattle.gx_tree.specs.Orders.{IsKeyed}
-use Rattle.gx_tree.specs.Trees.{Tree, entries, footprint}
+use Rattle.gx_tree.specs.Trees.{entries, footprint}
 use Rattle.gx_tree.proofs.Entries.{keyed_entries}
-use Rattle.gx_posting_tree.specs.PostingTrees.{Allows, Appends, AreSpelled, HaveRows, HoldsRows, IsNumber, by_number}
+use Rattle.gx_posting_tree.specs.PostingTrees.{Allows, Appends, AreSpelled, HaveRows, HoldsRows, by_number}
 use Rattle.gx_posting_tree.specs.Numbers.{lawful, rising_across}
 use Rattle.gx_posting_tree.specs.Spelled.{spelled_join, spelled_split}
 

@@ -1,5 +1,5 @@
 -- A page of level 0 with one more row.
-use Rattle.std.proofs.Common.{◌≡◌, ◌≢◌, ℕ, zero, suc, ◌+◌, ◌-◌, ◌^◌, ◌<◌, ◌≤◌, List, [], ◌∷◌, ◌++◌, length, take, drop, slice_get, slice_index_or, Option, Some, None, refl, sym, ◌∙◌, ap, subst, append_assoc, append-nil, length-append, arith}
+use Rattle.std.proofs.Common.{◌≡◌, ℕ, zero, suc, ◌+◌, ◌-◌, ◌^◌, ◌<◌, ◌≤◌, List, [], ◌∷◌, ◌++◌, length, take, drop, slice_get, slice_index_or, Option, Some, None, refl, sym, ◌∙◌, ap, subst, append_assoc, append-nil, length-append, arith}
 use Rattle.std.specs.Prelude.{IfNone, IfSome}
 use Rattle.std.specs.List.{AllByRecursion}
 use Rattle.std.proofs.lemmas.List.{drop_all, take_all}
@@ -16,7 +16,7 @@ use Rattle.gx_tree.specs.Orders.{IsFrom, IsUnder}
 use Rattle.gx_tree.specs.Paging.{replaced}
 use Rattle.gx_tree.proofs.Weights.{more_at}
 use Rattle.gx_posting_tree.specs.PostingTrees.{Allows, Appends, AreSpelled, HaveRows, IsFromKey, IsUnderKey, by_number}
-use Rattle.gx_posting_tree.proofs.Appended.{allowed_below, one_rows}
+use Rattle.gx_posting_tree.proofs.Appended.{allowed_below}
 use Rattle.gx_posting_tree.specs.Numbers.{to_key}
 use Rattle.gx_posting_tree.specs.Spelled.{spelled_join, spelled_split}
 

@@ -1,5 +1,5 @@
 -- The first page of a new posting tree.
-use Rattle.std.proofs.Common.{◌≡◌, ◌≢◌, ◌⊎◌, ⊎_elim, inl, inr, ℕ, zero, suc, ◌+◌, ◌-◌, ◌*◌, ◌^◌, ◌<◌, ◌≤◌, List, [], ◌∷◌, ◌++◌, length, map, take, drop, slice_index_or, get_or, Option, Some, None, refl, sym, ◌∙◌, ap, subst, append_assoc, append-nil, length-append, length-drop, arith}
+use Rattle.std.proofs.Common.{◌≡◌, ◌⊎◌, ⊎_elim, inl, inr, ℕ, zero, suc, ◌+◌, ◌-◌, ◌*◌, ◌<◌, ◌≤◌, List, [], ◌∷◌, ◌++◌, length, map, take, drop, slice_index_or, get_or, Option, Some, None, refl, sym, ◌∙◌, ap, subst, append_assoc, append-nil, length-append, length-drop, arith}
 use Rattle.std.specs.Prelude.{IfSome}
 use Rattle.std.specs.List.{AllByRecursion}
 use Rattle.std.proofs.lemmas.List.{map_push, take-append-drop, take_all, take_at}
@@ -15,9 +15,9 @@ use Rattle.gx_tree.specs.Paging.{weight}
 use Rattle.gx_tree.specs.Trees.{HoldsBeside, slots}
 use Rattle.gx_tree.proofs.Lists.{at_place}
 use Rattle.gx_tree.proofs.Weights.{taken_weight, weight-append}
-use Rattle.gx_posting_tree.specs.PostingTrees.{AreSpelled, HasFirst, HaveRows, HoldsRows, IsFromKey, IsUnderKey}
+use Rattle.gx_posting_tree.specs.PostingTrees.{AreSpelled, HasFirst, HoldsRows, IsFromKey, IsUnderKey}
 use Rattle.gx_posting_tree.specs.Numbers.{rising_right}
-use Rattle.gx_posting_tree.specs.Spelled.{rising_left, spelled_join}
+use Rattle.gx_posting_tree.specs.Spelled.{spelled_join}
 use Rattle.gx_posting_tree.proofs.Lengths.{entry_few, rows_many}
 
 -- the rows so far stand in lists of which each takes little, and each but the last has 22 rows at least
@@ -168,7 +168,7 @@ module _ (rows : List RowRef) (rising : IsRising rows) (at : ℕ) (below : at < 
       last_under (take at rows) last row.number is
       (below_next (take at rows) row (drop (suc at) rows) (subst (λ (l : List RowRef). IsRising l) (cut_index rows at none below).cut rising))
 
-  front_more : take (at + 1) rows ≡ take at rows ++ slice_index_or rows at none ∷ []
+  pub front_more : take (at + 1) rows ≡ take at rows ++ slice_index_or rows at none ∷ []
   front_more = ap (λ (n : ℕ). take n rows) (let e : at + 1 ≡ suc at = omega arith in e) ∙ (cut_index rows at none below).more
 
   pub list_grows : (old new : List ℕ) (last : Option RowRef) → last ≡ last_of (take at rows) → Spells old (take at rows) → new ≡ old ++ entry_bytes (number_of last) row

@@ -1,17 +1,16 @@
 -- A posting tree as a tree of pages.
-use Rattle.std.proofs.Common.{◌≡◌, ℕ, zero, suc, ◌+◌, ◌<◌, ◌≤◌, List, [], ◌∷◌, ◌++◌, length, map, Some, refl, sym, ◌∙◌, ap, subst, append-nil, length-append, arith}
+use Rattle.std.proofs.Common.{◌≡◌, ℕ, ◌+◌, ◌<◌, List, [], ◌∷◌, ◌++◌, length, map, Some, sym, ◌∙◌, ap, subst, length-append}
 use Rattle.std.specs.List.{AllByRecursion}
 use Rattle.gx_words.specs.PageMap.{PageMap}
 use Rattle.gx_pages.specs.declared.row.RowRef.{RowRef}
 use Rattle.gx_pages.specs.declared.store.Pages.{Ghosts}
 use Rattle.gx_pages.specs.Frees.{IsApart}
-use Rattle.gx_pages.specs.Rows.{IsRising}
 use Rattle.gx_pages.proofs.Footprints as feet_of
 use Rattle.gx_slot.specs.Slots.{Slots}
-use Rattle.gx_tree.specs.Trees.{Holds, HoldsBeside, IsOn, Tree, entries, footprint, items_of, leaves, leaves_of, link, numbers, pages_of, slots_of, uppers_of}
+use Rattle.gx_tree.specs.Trees.{HoldsBeside, IsOn, entries, leaves, numbers, slots_of, uppers_of}
 use Rattle.gx_tree.proofs.Nodes.{stand_leaves, slots_level}
 use Rattle.gx_tree.proofs.Dropped.{flat_tree}
-use Rattle.gx_posting_tree.specs.PostingTrees.{AreSpelled, HoldsList, HoldsRows}
+use Rattle.gx_posting_tree.specs.PostingTrees.{HoldsList, HoldsRows}
 use Rattle.gx_tree.proofs.Walks.{flat_items}
 
 pub beside : {P : Type 0} (g : Ghosts P) (pages : P) (root : ℕ) (rows : List RowRef) (feet free : List ℕ) (held : HoldsRows g pages root rows feet free) → HoldsBeside g pages 6 root held.held.tree free

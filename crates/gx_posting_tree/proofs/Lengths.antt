@@ -1,5 +1,5 @@
 -- How many bytes rows take in posting lists.
-use Rattle.std.proofs.Common.{◌≡◌, ℕ, zero, suc, ◌+◌, ◌-◌, ◌*◌, ◌^◌, ◌<◌, ◌≤◌, Bool, true, false, List, [], ◌∷◌, ◌++◌, length, filter, refl, sym, ◌∙◌, ap, subst, length-append, arith}
+use Rattle.std.proofs.Common.{◌≡◌, ℕ, ◌+◌, ◌-◌, ◌*◌, ◌^◌, ◌<◌, ◌≤◌, Bool, true, false, List, [], ◌∷◌, ◌++◌, length, filter, refl, length-append, arith}
 use Rattle.std.specs.List.{AllByRecursion}
 use Rattle.gx_bytes.specs.Varints.{IsVarint, varint_bytes}
 use Rattle.gx_bytes.proofs.Spellings.{varint_is, varint_short}

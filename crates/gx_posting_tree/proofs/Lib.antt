@@ -2,5 +2,9 @@ pub mod Appended
 pub mod Edits
 pub mod Fills
 pub mod Held
+pub mod Kept
 pub mod Lengths
 pub mod Read
+pub mod Relisted
+pub mod Removed
+pub mod Stripped

@@ -1,3 +1,4 @@
 pub mod Numbers
 pub mod PostingTrees
+pub mod Removing
 pub mod Spelled

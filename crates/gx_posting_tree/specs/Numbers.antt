@@ -1,11 +1,11 @@
 -- The order of numbers is one.
-use Rattle.std.proofs.Common.{◌≡◌, ◌≢◌, ℕ, zero, suc, ◌+◌, ◌^◌, ◌<◌, ◌≤◌, List, [], ◌∷◌, ◌++◌, length, Option, Some, None, refl, sym, ◌∙◌, ap, subst, append_assoc, append-nil, length-append, arith}
+use Rattle.std.proofs.Common.{◌≡◌, ℕ, ◌^◌, ◌<◌, ◌≤◌, List, [], ◌∷◌, ◌++◌, length, Option, Some, None, refl, sym, ◌∙◌, ap, subst, arith}
 use Rattle.std.specs.List.{AllByRecursion}
 use Rattle.gx_bytes.specs.Fields.{le64, of64, of64-le64, length-le64}
 use Rattle.gx_pages.specs.declared.row.RowRef.{RowRef}
 use Rattle.gx_pages.specs.Rows.{IsRising}
 use Rattle.gx_pages.proofs.Footprints as feet
-use Rattle.gx_posting.specs.Postings.{Fits, Spells}
+use Rattle.gx_posting.specs.Postings.{Fits}
 use Rattle.gx_posting.proofs.PostingFacts.{one_spelled}
 use Rattle.gx_tree.specs.Orders.{IsFrom, IsLawful, IsUnder}
 use Rattle.gx_posting_tree.specs.PostingTrees.{AreSpelled, HaveRows, IsFirst, IsFromKey, IsNumber, IsUnderKey, by_number}

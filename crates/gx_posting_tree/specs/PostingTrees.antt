@@ -1,6 +1,6 @@
 -- A posting tree: rows by rising numbers, in posting lists on the pages of a tree.
-use Rattle.std.specs.Prelude.{◌≡◌, ◌≢◌, ℕ, zero, suc, ◌^◌, ◌<◌, ◌≤◌, List, [], ◌∷◌, ◌++◌, length, map, take, Option, Some, None}
-use Rattle.std.specs.List.{AllByRecursion}
+use Rattle.std.specs.Prelude.{◌≡◌, ◌==◌, not, ℕ, ◌^◌, ◌<◌, ◌≤◌, List, [], ◌∷◌, ◌++◌, length, map, take, filter, Option, Some, None}
+use Rattle.std.specs.List.{AllByRecursion, list_any}
 use Rattle.gx_bytes.specs.Fields.{le64, of64}
 use Rattle.gx_words.specs.PageMap.{PageMap}
 use Rattle.gx_pages.specs.declared.row.RowRef.{RowRef}
@@ -11,6 +11,10 @@ use Rattle.gx_posting.specs.Postings.{Spells}
 use Rattle.gx_slot.specs.Slots.{Slots}
 use Rattle.gx_tree.specs.Orders.{IsKeyed, Order}
 use Rattle.gx_tree.specs.Trees.{Holds, Tree, entries, footprint, slots}
+
+-- the rows whose number is none of these
+abbrev pub without : List RowRef → List RowRef → List RowRef
+without gone rows = filter (λ row. not (list_any (λ other. other.number == row.number) gone)) rows
 
 -- Each item is a posting list of one row at least, in at most 512 bytes; one behind another they have these rows.
 abbrev pub AreSpelled : List (List ℕ) → List RowRef → Type 0

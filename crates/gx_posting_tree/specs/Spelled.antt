@@ -1,11 +1,9 @@
 -- Posting lists one behind another.
-use Rattle.std.proofs.Common.{◌≡◌, ℕ, zero, suc, ◌+◌, ◌<◌, ◌≤◌, List, [], ◌∷◌, ◌++◌, length, take, refl, sym, ◌∙◌, ap, subst, append_assoc, append-nil, length-append, arith}
-use Rattle.std.specs.List.{AllByRecursion}
+use Rattle.std.proofs.Common.{◌≡◌, ℕ, List, [], ◌∷◌, ◌++◌, length, refl, sym, ◌∙◌, ap, subst, append_assoc}
 use Rattle.std.proofs.lemmas.List.{take_at}
 use Rattle.gx_pages.specs.declared.row.RowRef.{RowRef}
 use Rattle.gx_pages.specs.Rows.{IsRising}
 use Rattle.gx_pages.proofs.Rising.{rising_take}
-use Rattle.gx_posting.specs.Postings.{Spells}
 use Rattle.gx_posting_tree.specs.PostingTrees.{AreSpelled}
 
 pub rising_left : (xs ys : List RowRef) → IsRising (xs ++ ys) → IsRising xs

@@ -5,6 +5,7 @@ mod appending;
 mod filling;
 mod laws;
 mod reading;
+mod removing;
 mod tree;
 
 pub use laws::one_list;

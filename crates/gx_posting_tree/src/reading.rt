@@ -38,7 +38,7 @@ pub fn push_rows(page: u64, slots: &SlotPage, to: &mut Bitmap) -> Result<(), Pag
 }
 
 /// A page has no posting list where one has to stand.
-fn no_list(page: u64) -> PageError
+pub fn no_list(page: u64) -> PageError
     ensures { result ≡ PageError.Broken page 1 0 }
 {
     PageError::Broken {

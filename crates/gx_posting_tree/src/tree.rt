@@ -1,6 +1,6 @@
 //! A posting tree.
 
-ghost use Rattle.std.specs.Prelude.{◌≡◌, ℕ, ◌+◌, ◌*◌, ◌≤◌, List, [], ◌∷◌, ◌++◌, length, IfOk, IfErr, OnOk};
+ghost use Rattle.std.specs.Prelude.{◌≡◌, ◌↔◌, true, ℕ, ◌+◌, ◌*◌, ◌≤◌, List, [], ◌∷◌, ◌++◌, length, IfOk, IfErr, OnOk};
 ghost use Rattle.gx_pages.specs.declared.row.RowRef.{RowRef};
 ghost use Rattle.gx_pages.specs.Footprints.{KeepsPages, StaysQuiet};
 ghost use Rattle.gx_pages.specs.Frees.{IsFreeList, IsFull};
@@ -8,11 +8,12 @@ ghost use Rattle.gx_pages.specs.Pages.{HasCause};
 ghost use Rattle.gx_pages.specs.Rows.{AreBelow, IsRising};
 ghost use Rattle.gx_posting.specs.Postings.{entries_bytes};
 ghost use Rattle.gx_chain.specs.Chains.{IsSound, ListsNone};
-ghost use Rattle.gx_posting_tree.specs.PostingTrees.{HoldsList, HoldsRows, HoldsNoList, HoldsNoRows};
+ghost use Rattle.gx_posting_tree.specs.PostingTrees.{HoldsList, HoldsRows, HoldsNoList, HoldsNoRows, without};
 
 use crate::appending::Appending;
 use crate::filling::fill_page;
 use crate::reading::{KIND, leaf_rows, push_rows};
+use crate::removing::{leaf_list, strip_pages};
 use gx_pages::{Bitmap, PageError, Pages, RowRef};
 use gx_tree::{change_tree, create_leaf, drop_tree, fetch_top, survey};
 use std::alloc::Global;
@@ -133,6 +134,29 @@ impl PostingTree {
         };
         change_tree(&change, alloc, pages, KIND, self.page)?;
         Ok(())
+    }
+
+    /// Takes out the rows whose numbers are among those of `gone`. True exactly where nothing is left. No page is taken or given,
+    /// and a page without such rows isn't written.
+    pub fn remove_rows<P: Pages>(
+        &mut self,
+        alloc: Global,
+        pages: &mut P,
+        gone: &Bitmap,
+    ) -> Result<bool, PageError>
+        ensures removed { OnOk result (P.tells → (rows : List RowRef) (feet free : List ℕ) → HoldsRows P.Pages pages.old self.old.page rows feet free
+            → HoldsRows P.Pages pages.new self.old.page (without gone.now rows) feet free × KeepsPages P.Pages pages.old pages.new feet free feet free) }
+        ensures empty { IfOk result (λ empty. P.tells → (rows : List RowRef) (feet free : List ℕ) → HoldsRows P.Pages pages.old self.old.page rows feet free
+            → empty ≡ true ↔ without gone.now rows ≡ []) }
+        ensures same { self.new ≡ self.old }
+        ensures count { P.count pages.new ≡ P.count pages.old }
+        ensures cause { IfErr result (HasCause (P.faults pages.old) (P.faults pages.new)
+            (λ at expected found. P.tells → HoldsNoRows P.Pages pages.old self.old.page) (λ _. ⊥) (Unit {0})) }
+        ensures heap { IsSound result → P.heap_fetches pages.new ≡ P.heap_fetches pages.old }
+        ensures quiet { StaysQuiet P.Pages pages.old pages.new }
+    {
+        let list = leaf_list(alloc, pages, self.page)?;
+        strip_pages(alloc, pages, list.as_slice(), gone)
     }
 
     /// Gives every page back. There is no tree then.

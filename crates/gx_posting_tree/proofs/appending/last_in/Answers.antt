@@ -1,7 +1,7 @@
-use Rattle.std.proofs.Common.{◌≡◌, ◌<◌, ◌++◌, [], true, false, List, Option, Some, None, length, refl, sym, ◌∙◌, ap, subst}
+use Rattle.std.proofs.Common.{◌++◌, List, sym, ◌∙◌, ap, subst}
 use Rattle.gx_pages.specs.declared.row.RowRef.{RowRef}
 use Rattle.gx_pages.specs.Rows.{IsRising}
-use Rattle.gx_posting.specs.Postings.{Spells, last_of}
+use Rattle.gx_posting.specs.Postings.{last_of}
 use Rattle.gx_posting_tree.proofs.Edits.{found_none, found_some, never_read}
 use Rattle.gx_posting_tree.proofs.appending.last_in.Goals as goal
 

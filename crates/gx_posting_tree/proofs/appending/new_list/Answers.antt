@@ -1,5 +1,4 @@
-use Rattle.std.proofs.Common.{◌≡◌, ◌≤◌, ◌++◌, ◌∷◌, [], ℕ, List, length, refl, sym, ◌∙◌, ap, subst}
-use Rattle.gx_pages.specs.declared.row.RowRef.{RowRef}
+use Rattle.std.proofs.Common.{◌++◌, [], ℕ, List, refl, sym, ◌∙◌, ap, subst}
 use Rattle.gx_posting.specs.Postings.{Spells, entry_bytes}
 use Rattle.gx_posting_tree.proofs.Edits.{empty_spells, row_short}
 use Rattle.gx_posting_tree.proofs.appending.new_list.Goals as goal

@@ -1,4 +1,4 @@
-use Rattle.std.proofs.Common.{◌≡◌, ◌<◌, ◌≤◌, ◌+◌, ◌-◌, ℕ, List, Some, length, take, drop, ◌∙◌, ap, arith}
+use Rattle.std.proofs.Common.{◌-◌, ℕ, List, Some, length, take, drop, ◌∙◌, ap, arith}
 use Rattle.gx_slot.specs.Slots.{with_item}
 use Rattle.gx_posting_tree.proofs.Fills.{fills_full, fills_more, rest_all, rest_rising}
 use Rattle.gx_posting_tree.proofs.filling.fill_page.Goals as goal

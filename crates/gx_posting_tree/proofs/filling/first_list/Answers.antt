@@ -1,4 +1,4 @@
-use Rattle.std.proofs.Common.{◌≡◌, ◌⊎◌, inr, ◌<◌, ◌≤◌, ◌+◌, ◌*◌, ℕ, List, length, take, arith}
+use Rattle.std.proofs.Common.{inr, arith}
 use Rattle.gx_posting_tree.proofs.Fills.{last_here, list_grows, row_above}
 use Rattle.gx_posting_tree.proofs.filling.first_list.Goals as goal
 

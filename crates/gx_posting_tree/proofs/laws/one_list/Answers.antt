@@ -1,4 +1,4 @@
-use Rattle.std.proofs.Common.{◌≡◌, ◌≤◌, ◌^◌, ℕ, List, sym, ◌∙◌, subst, arith}
+use Rattle.std.proofs.Common.{ℕ, List, sym, ◌∙◌, subst, arith}
 use Rattle.gx_tree.proofs.Once.{tree_once}
 use Rattle.gx_tree.specs.Trees.{entries}
 use Rattle.gx_posting_tree.specs.PostingTrees.{AreSpelled}

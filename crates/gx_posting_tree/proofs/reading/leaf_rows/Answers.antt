@@ -1,9 +1,8 @@
-use Rattle.std.proofs.Common.{◌≡◌, ◌+◌, ◌≤◌, ◌<◌, ◌∷◌, [], ◌++◌, ◌∙◌, ℕ, List, length, drop, get_or, sym, ap, refl, arith}
+use Rattle.std.proofs.Common.{◌≡◌, ◌<◌, ◌∙◌, ℕ, List, length, drop, get_or, sym, ap, refl, arith}
 use Rattle.std.proofs.lemmas.Result.{err_from_is_err_and}
 use Rattle.gx_words.specs.PageMap.{PageMap}
-use Rattle.gx_pages.specs.declared.row.RowRef.{RowRef}
 use Rattle.gx_pages.proofs.Footprints.{cause_weaker, quiet_join, quiet_none}
-use Rattle.gx_tree.specs.Trees.{Leaf, items_of}
+use Rattle.gx_tree.specs.Trees.{items_of}
 use Rattle.gx_tree.proofs.Lists.{at_place}
 use Rattle.gx_tree.proofs.Causes.{broken_or}
 use Rattle.gx_tree.proofs.Walks.{leaf, leaf_found, leaf_sound, leaves_end}

@@ -1,5 +1,4 @@
-use Rattle.std.proofs.Common.{◌≡◌, ◌+◌, ◌<◌, ◌++◌, ◌∙◌, ℕ, List, Some, None, true, false, map, drop, length, sym, ap, refl, arith}
-use Rattle.gx_pages.specs.declared.row.RowRef.{RowRef}
+use Rattle.std.proofs.Common.{◌+◌, drop, sym}
 use Rattle.gx_tree.proofs.Walks.{slot_next, slot_none, slots_end}
 use Rattle.gx_posting_tree.proofs.Read.{reads_all, reads_none, reads_one, reads_refused}
 use Rattle.gx_posting_tree.proofs.reading.push_rows.Goals as goal

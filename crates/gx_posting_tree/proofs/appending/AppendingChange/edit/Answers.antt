@@ -1,5 +1,4 @@
-use Rattle.std.proofs.Common.{◌≡◌, ◌≢◌, ◌≤◌, ◌<◌, ◌+◌, ◌-◌, ◌^◌, ◌++◌, ◌∷◌, [], ℕ, List, Option, Some, None, length, map, slice_get, refl, sym, ◌∙◌, ap, subst, arith}
-use Rattle.gx_pages.specs.declared.row.RowRef.{RowRef}
+use Rattle.std.proofs.Common.{◌-◌, Some, None, sym, ◌∙◌, arith}
 use Rattle.gx_tree.proofs.Gathers.{count_of, no_slot, slot_item}
 use Rattle.gx_posting_tree.proofs.Edits.{allows_at, edit_longer, edit_new, if_none, if_some, last_low, list_at}
 use Rattle.gx_posting_tree.proofs.appending.AppendingChange.edit.Goals as goal

@@ -1,4 +1,4 @@
-use Rattle.std.proofs.Common.{◌≡◌, ◌++◌, ◌∷◌, ℕ, List, Option, Some, None, sym, ◌∙◌, ap, subst}
+use Rattle.std.proofs.Common.{ℕ, ◌∙◌, ap}
 use Rattle.gx_bytes.specs.Fields.{le64}
 use Rattle.gx_posting_tree.proofs.Edits.{begin_item}
 use Rattle.gx_posting_tree.proofs.appending.AppendingChange.key_of.Goals as goal

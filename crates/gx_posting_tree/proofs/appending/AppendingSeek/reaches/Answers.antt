@@ -1,4 +1,4 @@
-use Rattle.std.proofs.Common.{◌≡◌, ◌≤◌, ◌<◌, ◌^◌, ℕ, List, sym, ◌∙◌, ap, arith}
+use Rattle.std.proofs.Common.{◌≡◌, ◌<◌, ◌^◌, ℕ, List, ◌∙◌, ap, arith}
 use Rattle.gx_bytes.specs.Fields.{le64, of64, of64-le64}
 use Rattle.gx_posting_tree.proofs.appending.AppendingSeek.reaches.Goals as goal
 

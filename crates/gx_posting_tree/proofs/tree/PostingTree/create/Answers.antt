@@ -1,10 +1,8 @@
-use Rattle.std.proofs.Common.{◌≡◌, ◌≤◌, ◌<◌, ◌+◌, ◌-◌, ◌*◌, ◌++◌, ◌∷◌, [], ℕ, List, length, take, drop, refl, sym, ◌∙◌, ap, subst, arith}
+use Rattle.std.proofs.Common.{◌≡◌, ◌≤◌, ◌∷◌, [], List, length, take, sym, ◌∙◌, ap, subst, arith}
 use Rattle.std.proofs.lemmas.Result.{err_from_is_err_and}
 use Rattle.gx_pages.specs.declared.row.RowRef.{RowRef}
-use Rattle.gx_pages.specs.Footprints.{KeepsPages}
 use Rattle.gx_pages.specs.Rows.{IsRising}
 use Rattle.gx_pages.proofs.Footprints.{cause_weaker, keeps_join}
-use Rattle.gx_posting.specs.Postings.{entries_bytes}
 use Rattle.gx_posting_tree.specs.PostingTrees.{HoldsRows}
 use Rattle.gx_posting_tree.specs.declared.tree.PostingTree.{PostingTree}
 use Rattle.gx_posting_tree.proofs.Fills.{few_rows, page_first, rest_few, whole_rows}

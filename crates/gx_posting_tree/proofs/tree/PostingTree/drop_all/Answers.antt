@@ -1,4 +1,4 @@
-use Rattle.std.proofs.Common.{◌≡◌, ◌+◌, ◌≤◌, ◌∙◌, ◌++◌, [], ℕ, List, sym, ap, subst, arith}
+use Rattle.std.proofs.Common.{[], ℕ, List, sym, subst, arith}
 use Rattle.std.proofs.lemmas.Result.{on_ok_weaker, IfErr-weaker}
 use Rattle.gx_pages.specs.Footprints.{KeepsPages}
 use Rattle.gx_pages.proofs.Footprints.{cause_weaker}
