@@ -7,3 +7,4 @@ pub mod Leaves
 pub mod Maps
 pub mod Nexts
 pub mod Once
+pub mod AllOf

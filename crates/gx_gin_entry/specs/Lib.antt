@@ -1,3 +1,4 @@
 pub mod EntryTrees
 pub mod Keys
 pub mod Lists
+pub mod Listed

@@ -3,6 +3,7 @@
 
 mod keys;
 mod laws;
+mod listing;
 mod next;
 mod places;
 mod putting;
@@ -10,4 +11,5 @@ mod removing;
 mod tree;
 
 pub use laws::one_map;
+pub use listing::EntryBytes;
 pub use tree::EntryTree;

@@ -8,15 +8,19 @@ ghost use Rattle.gx_pages.specs.Pages.{HasCause};
 ghost use Rattle.gx_chain.specs.Chains.{IsSound, ListsNone};
 ghost use Rattle.gx_tree.specs.Finding.{LeafAt};
 ghost use Rattle.gx_gin_entry.specs.EntryTrees.{AreShorter, Entry, HasLonger, HoldsEntries, HoldsMap, HoldsNoEntries, HoldsNoMap, IsFound, IsNext, IsPut, IsRemoved, by_key, key_bytes};
+ghost use Rattle.gx_gin_entry.specs.Listed.{entries_of};
 
 use crate::keys::Sought;
+use crate::listing::{EntryBytes, leaf_entries, push_entries};
 use crate::next::{above_in, first_behind, sought_from};
 use crate::places::{broken, find_in, posting_in};
 use crate::putting::{Putting, replace_in};
 use crate::removing::without;
 use gx_bytes::Bytes;
 use gx_pages::{PageError, Pages};
-use gx_tree::{LeafPage, change_tree, create_tree, drop_tree, fetch_top, find_leaf, rewrite_leaf};
+use gx_tree::{
+    LeafPage, change_tree, create_tree, drop_tree, fetch_top, find_leaf, rewrite_leaf, survey,
+};
 use std::alloc::Global;
 
 /// The kind of the pages of entry trees.
@@ -104,6 +108,33 @@ impl EntryTree {
             Some(entry) => Ok(Some(entry)),
             None => first_behind(alloc, pages, self.page, leaf.page),
         }
+    }
+
+    /// All entries by rising keys. Each page is fetched once.
+    pub fn entries<P: Pages>(
+        &self,
+        alloc: Global,
+        pages: &mut P,
+    ) -> Result<Vec<EntryBytes>, PageError>
+        ensures entries { IfOk result (λ found. P.tells → (list : List Entry) (feet : List ℕ) → HoldsMap (P.map pages.old) (P.count pages.old) self.now.page list feet → entries_of found.items ≡ list) }
+        ensures fetches { OnOk result (P.tells → (list : List Entry) (feet : List ℕ) → HoldsMap (P.map pages.old) (P.count pages.old) self.now.page list feet
+            → P.fetches pages.new ≤ P.fetches pages.old + length feet) }
+        ensures cause { IfErr result (HasCause (P.faults pages.old) (P.faults pages.new)
+            (λ at expected found. P.tells → HoldsNoMap (P.map pages.old) (P.count pages.old) self.now.page) (λ _. ⊥) (Unit {0})) }
+        ensures map { P.map pages.new ≡ P.map pages.old }
+        ensures count { P.count pages.new ≡ P.count pages.old }
+        ensures heap { IsSound result → P.heap_fetches pages.new ≡ P.heap_fetches pages.old }
+        ensures quiet { StaysQuiet P.Pages pages.old pages.new }
+    {
+        let top = fetch_top(pages, self.page, KIND)?;
+        let mut found = Vec::new(alloc);
+        if top.level() == 0 {
+            push_entries(alloc, self.page, &top, &mut found)?;
+            return Ok(found);
+        }
+        let all = survey(alloc, pages, self.page, KIND, &top)?;
+        leaf_entries(alloc, pages, all.leaves.as_slice(), &mut found)?;
+        Ok(found)
     }
 
     /// Puts a posting at a key, which it has then. At most 60 pages more are taken, and none where the key is there with a posting
