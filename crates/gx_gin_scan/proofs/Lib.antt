@@ -1,1 +1,9 @@
 pub mod Empty
+pub mod Held
+pub mod Walked
+pub mod Reading
+pub mod Founds
+pub mod Listed
+pub mod Frames
+pub mod Gone
+pub mod Grows

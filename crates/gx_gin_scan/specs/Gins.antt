@@ -1,5 +1,6 @@
 -- A GIN index on pages: an entry tree of keys, and the rows of each key in its entry or in a posting tree.
-use Rattle.std.specs.Prelude.{◌≡◌, ◌≢◌, ◌⊎◌, ℕ, ◌≤◌, List, [], ◌∷◌, ◌++◌, length}
+use Rattle.std.specs.Prelude.{◌≡◌, ◌≢◌, ◌⊎◌, ℕ, ◌≤◌, if◌then◌else◌, List, [], ◌∷◌, ◌++◌, length}
+use Rattle.std.specs.Str.{bytes_eq}
 use Rattle.gx_bytes.specs.Fields.{le64}
 use Rattle.gx_words.specs.PageMap.{PageMap}
 use Rattle.gx_pages.specs.declared.row.RowRef.{RowRef}
@@ -35,6 +36,12 @@ AreHeld map_of count [] (list ∷ lists) feet = ⊥
 AreHeld map_of count (entry ∷ entries) [] feet = ⊥
 AreHeld map_of count (entry ∷ entries) (list ∷ lists) feet =
     (own : List ℕ) × (others : List ℕ) × (feet ≡ own ++ others) × (entry.0 ≡ list.0) × (list.1 ≢ []) × IsPosting map_of count entry.1 list.1 own × AreHeld map_of count entries lists others
+
+-- the pages that the list of a key takes outside of its entry
+abbrev pub pages_under : (map_of : PageMap) (count : ℕ) (entries : List Entry) (lists : Lists) (feet : List ℕ) → AreHeld map_of count entries lists feet → List ℕ → List ℕ
+pages_under map_of count [] lists feet are key = []
+pages_under map_of count (entry ∷ entries) [] feet are key = []
+pages_under map_of count (entry ∷ entries) (list ∷ lists) feet are key = if bytes_eq list.0 key then are.0 else pages_under map_of count entries lists are.1 are.6 key
 
 -- The map of pages holds the index with these lists below a root page, on these pages: those of the entry tree, and those of the posting trees.
 pub record HoldsLists (map_of : PageMap) (count root : ℕ) (lists : Lists) (feet : List ℕ) : Type 0 where

@@ -1,16 +1,24 @@
 //! A GIN index.
 
-ghost use Rattle.std.specs.Prelude.{◌≡◌, ℕ, ◌+◌, ◌≤◌, List, [], ◌∷◌, IfOk, IfErr};
+ghost use Rattle.std.specs.Prelude.{◌≡◌, ◌≢◌, ℕ, ◌+◌, ◌≤◌, List, [], ◌∷◌, IfOk, IfErr, OnOk};
+ghost use Rattle.gx_chain.specs.Chains.{IsSound, ListsNone};
+ghost use Rattle.gx_pages.specs.declared.row.RowRef.{RowRef};
 ghost use Rattle.gx_pages.specs.Footprints.{KeepsPages, StaysQuiet};
 ghost use Rattle.gx_pages.specs.Frees.{IsFreeList, IsFull};
 ghost use Rattle.gx_pages.specs.Pages.{HasCause};
-ghost use Rattle.gx_chain.specs.Chains.{ListsNone};
-ghost use Rattle.gx_gin_scan.specs.Gins.{HoldsGin};
-ghost use Rattle.gx_gin_scan.specs.Lists.{IsIndexOf};
+ghost use Rattle.gx_pages.specs.Rows.{IsRising};
+ghost use Rattle.gx_gin.specs.declared.wanted.Mode.TheVariants.{All};
+ghost use Rattle.gx_gin_scan.specs.Gins.{HoldsGin, HoldsLists, HoldsNoGin, HoldsNoLists};
+ghost use Rattle.gx_gin_scan.specs.Lists.{IsIndexOf, Lists, found};
+ghost use Rattle.gx_gin_scan.specs.Searches.{keys_read, pages_read};
 
-use gx_gin::GinClass;
+use crate::dropping::drop_postings;
+use crate::looking::rows_looked_at;
+use crate::searching::{arrange, pick, rows_of_items};
+use gx_gin::{GinClass, Wanted};
 use gx_gin_entry::EntryTree;
-use gx_pages::{PageError, Pages};
+use gx_pages::{Bitmap, PageError, Pages};
+use std::alloc::Global;
 
 /// An index of an operator class: the root page of its entry tree, whose number stays the same.
 #[derive(Drop)]
@@ -46,10 +54,73 @@ impl<C: GinClass> Gin<C> {
         Gin { class, root }
     }
 
+    /// The rows in reach of a query that its flags don't rule out. A page a level of the entry tree is fetched for each wanted item,
+    /// and each page of its posting tree; in mode All each page of the index is fetched once, beside them.
+    pub fn search<P: Pages>(
+        &self,
+        alloc: Global,
+        pages: &mut P,
+        query: &C::Query,
+    ) -> Result<Bitmap, PageError>
+        requires class { C.valid self.now.class }
+        requires query { C.valid_query self.now.class query.now }
+        ensures found { IfOk result (λ rows. P.tells → (lists : Lists) (feet : List ℕ) → HoldsLists (P.map pages.old) (P.count pages.old) self.now.root lists feet
+            → (all : List (RowRef × C.Value)) → IsIndexOf (C.items_of self.now.class) lists all
+            → rows ≡ found (C.items_of self.now.class) (C.mode_of self.now.class query.now) (C.wanted_of self.now.class query.now) (C.passes_of self.now.class query.now) all) }
+        ensures rising { IfOk result (λ rows. IsRising rows) }
+        ensures fetches { OnOk result (C.mode_of self.now.class query.now ≢ All → P.tells → (lists : Lists) (feet : List ℕ) (held : HoldsLists (P.map pages.old) (P.count pages.old) self.now.root lists feet)
+            → P.fetches pages.new ≤ P.fetches pages.old
+            + pages_read (P.map pages.old) (P.count pages.old) self.now.root lists feet held (keys_read (C.mode_of self.now.class query.now) (C.wanted_of self.now.class query.now))) }
+        ensures cause { IfErr result (HasCause (P.faults pages.old) (P.faults pages.new)
+            (λ at expected found. P.tells → HoldsNoLists (P.map pages.old) (P.count pages.old) self.now.root) (λ _. ⊥) (Unit {0})) }
+        ensures map { P.map pages.new ≡ P.map pages.old }
+        ensures count { P.count pages.new ≡ P.count pages.old }
+        ensures heap { IsSound result → P.heap_fetches pages.new ≡ P.heap_fetches pages.old }
+        ensures quiet { StaysQuiet P.Pages pages.old pages.new }
+    {
+        let Ok(wanted) = self.class.wanted(alloc, query) else {
+            return Err(PageError::Memory);
+        };
+        let Wanted { items, mode } = wanted;
+        let lists = rows_of_items(alloc, pages, self.root, &items)?;
+        let looked = rows_looked_at(alloc, pages, self.root, mode, lists.as_slice())?;
+        let rows = arrange(alloc, looked)?;
+        pick(alloc, &self.class, query, lists.as_slice(), &rows)
+    }
+
     /// The root page.
     pub fn root(&self) -> u64
         ensures { result ≡ self.now.root }
     {
         self.root
     }
+
+    /// Gives every page back. There is no index then.
+    pub fn drop_all<P: Pages>(self, alloc: Global, pages: &mut P) -> Result<(), PageError>
+        ensures dropped { OnOk result (P.tells → (lists : Lists) (feet free : List ℕ) → HoldsGin P.Pages pages.old self.root lists feet free
+            → (rest : List ℕ) × KeepsPages P.Pages pages.old pages.new feet free [] rest) }
+        ensures count { P.count pages.new ≡ P.count pages.old }
+        ensures cause { IfErr result (HasCause (P.faults pages.old) (P.faults pages.new)
+            (λ at expected found. P.tells → HoldsNoGin P.Pages pages.old self.root) (λ _. ⊥) (Unit {0})) }
+        ensures heap { IsSound result → P.heap_fetches pages.new ≡ P.heap_fetches pages.old }
+        ensures quiet { StaysQuiet P.Pages pages.old pages.new }
+    {
+        drop_index(alloc, pages, self.root)
+    }
+}
+
+/// Gives every page of the index below this root page back.
+fn drop_index<P: Pages>(alloc: Global, pages: &mut P, root: u64) -> Result<(), PageError>
+    ensures dropped { OnOk result (P.tells → (lists : Lists) (feet free : List ℕ) → HoldsGin P.Pages pages.old root lists feet free
+        → (rest : List ℕ) × KeepsPages P.Pages pages.old pages.new feet free [] rest) }
+    ensures count { P.count pages.new ≡ P.count pages.old }
+    ensures cause { IfErr result (HasCause (P.faults pages.old) (P.faults pages.new)
+        (λ at expected found. P.tells → HoldsNoGin P.Pages pages.old root) (λ _. ⊥) (Unit {0})) }
+    ensures heap { IsSound result → P.heap_fetches pages.new ≡ P.heap_fetches pages.old }
+    ensures quiet { StaysQuiet P.Pages pages.old pages.new }
+{
+    let tree = EntryTree::at(root);
+    let entries = tree.entries(alloc, pages)?;
+    drop_postings(alloc, pages, root, entries.as_slice())?;
+    tree.drop_all(alloc, pages)
 }

@@ -1,0 +1,5 @@
+//! Tests of GIN indexes over pages in memory.
+#![tactic(auto)]
+
+#[cfg(test)]
+mod arrays;
