@@ -1,0 +1,5 @@
+mod Among
+mod Frames
+mod IndexFacts
+mod KeyRows
+mod NullRows

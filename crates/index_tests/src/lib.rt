@@ -1,0 +1,5 @@
+//! Tests of indexes on pages, through their public calls.
+#![tactic(auto)]
+
+#[cfg(test)]
+mod numbers;
