@@ -110,7 +110,7 @@ impl<M: Kept> Indexed<M> {
         find_nulls(alloc, pages, self.nulls)
     }
 
-    /// Takes out the rows with these numbers. No page is taken; what is left without rows gives its pages back.
+    /// Takes out the rows with these numbers. The count of pages stays; where no NULL row is left their pages are given back.
     pub fn remove<P: Pages>(
         &mut self,
         alloc: Global,

@@ -1,4 +1,4 @@
-//! Indexes on pages: the rows of a column by their values, of every operator class, and its NULL rows.
+//! Indexes on pages: the rows of a column by their values, of the GiST classes, and its NULL rows.
 #![tactic(auto)]
 
 mod indexed;
