@@ -1,2 +1,4 @@
+pub mod Asked
+mod AskedScalars
 pub mod Sees
 pub mod Seen

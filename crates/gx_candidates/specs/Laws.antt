@@ -16,7 +16,7 @@ use Rattle.gx_opr.specs.declared.operand.Operand.{Operand}
 use Rattle.gx_opr.specs.Decisions.{holds}
 use Rattle.gx_opr.specs.Operands.{Right, query_int, right_of, IsOperand}
 use Rattle.gx_candidates.specs.Candidates.{candidate}
-use Rattle.gx_candidates.specs.Queries.{IsScalarRight, IsValidRight}
+use Rattle.gx_candidates.specs.Queries.{IsScalarRight, IsValidRight, asks}
 
 -- the numbers of a formula are int4, as those of the code's formulas are
 abbrev pub HasInt4 : Right → Type 0
@@ -52,3 +52,7 @@ QuestionsAreValid = (class : Class) (n : ℕ) (kind : ColumnType) (op : Operator
 
 abbrev pub ScalarQuestionsAreValid : Type 0
 ScalarQuestionsAreValid = (scalar : ScalarKind) (n : ℕ) (kind : ColumnType) (op : Operator) (o : Operand) → IsAsked (scalar_class scalar) n kind op o → IsScalarRight scalar (right_of o.part)
+
+-- Each class has a query for each question that its indexes answer.
+abbrev pub QuestionsAreAsked : Type 0
+QuestionsAreAsked = (class : Class) (n : ℕ) (kind : ColumnType) (op : Operator) (o : Operand) → IsAsked class n kind op o → asks class op (right_of o.part) ≡ true

@@ -29,6 +29,8 @@ use Rattle.gx_gin_maps.specs.declared.hstore_query.HstoreQuery as gin_maps
 use Rattle.gx_gin_documents.specs.Paths as paths
 use Rattle.gx_gin_documents.specs.Tests as document_tests
 use Rattle.gx_gin_documents.specs.declared.json_query.JsonQuery.{JsonQuery}
+use Rattle.gx_value.specs.declared.classes.Class.{Class}
+use Rattle.gx_value.specs.declared.classes.Class.TheVariants.{GistInt4, GistInt8, GistText, GistBytea, GistDate, GistUuid, RangeOps, InetOps, GistLtree, GistHstore, GistInt, GistIntbig, ArrayOps, GinInt, GinHstore, JsonbOps, JsonbPathOps}
 use Rattle.gx_value.specs.declared.operators.Operator.{Operator}
 use Rattle.gx_value.specs.declared.operators.Operator.TheVariants.{Equal, Overlaps, Contains, Within, Matches, Has, Words, HasAll, HasAny, Formula}
 use Rattle.gx_value.specs.Values.{IsDatum, scalar, range, inet, path, hstore, int_array, json}
@@ -116,6 +118,26 @@ asks_document _ _ = false
 abbrev pub asks_paths : Operator → Right → Bool
 asks_paths Contains (datum (json q)) = true
 asks_paths _ _ = false
+
+-- the right sides with which an operator is a question to the class
+abbrev pub asks : Class → Operator → Right → Bool
+asks GistInt4 op q = asks_scalar op q
+asks GistInt8 op q = asks_scalar op q
+asks GistText op q = asks_scalar op q
+asks GistBytea op q = asks_scalar op q
+asks GistDate op q = asks_scalar op q
+asks GistUuid op q = asks_scalar op q
+asks RangeOps op q = asks_range op q
+asks InetOps op q = asks_inet op q
+asks GistLtree op q = asks_path op q
+asks GistHstore op q = asks_map op q
+asks GistInt op q = asks_set op q
+asks GistIntbig op q = asks_set op q
+asks ArrayOps op q = asks_array op q
+asks GinInt op q = asks_numbers op q
+asks GinHstore op q = asks_map op q
+asks JsonbOps op q = asks_document op q
+asks JsonbPathOps op q = asks_paths op q
 
 -- The class's query: valid where the right side is, and its test doesn't say No exactly of the candidates.
 

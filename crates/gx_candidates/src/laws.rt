@@ -1,6 +1,6 @@
 //! What makes an index safe to ask.
 
-ghost use Rattle.gx_candidates.specs.Laws.{CandidatesSee, QuestionsAreValid, ScalarQuestionsAreValid};
+ghost use Rattle.gx_candidates.specs.Laws.{CandidatesSee, QuestionsAreAsked, QuestionsAreValid, ScalarQuestionsAreValid};
 
 /// A value of which the operator holds is a candidate of each index that answers the question: an index loses no row.
 pub fn candidates_see()
@@ -18,3 +18,8 @@ pub fn questions_are_valid()
     gx_opr::decided();
     gx_value::rows_are_valid();
 }
+
+/// An index that answers a question is asked it: the class has a query for the operator with its right side.
+pub fn questions_are_asked()
+    ensures { QuestionsAreAsked }
+{}

@@ -7,6 +7,6 @@ mod scalars;
 mod sets;
 
 pub use items::{array_query, gin_map_query, json_path_query, json_query, numbers_query};
-pub use laws::{candidates_see, questions_are_valid};
+pub use laws::{candidates_see, questions_are_asked, questions_are_valid};
 pub use scalars::{inet_query, range_query, scalar_query};
 pub use sets::{map_query, path_query, set_query};
