@@ -1,5 +1,5 @@
 -- What each accepted statement leaves, and what it costs.
-use Rattle.std.proofs.Common.{◌≡◌, ◌≢◌, ◌⊎◌, inl, inr, ℕ, ◌+◌, ◌*◌, ◌^◌, ◌<◌, ◌≤◌, zero, suc, ◌||◌, nat_le, nat_lt, Bool, true, false, List, [], ◌∷◌, ◌++◌, length, map, codes, Option, Some, None, refl, sym, ◌∙◌, ap, subst, arith}
+use Rattle.std.proofs.Common.{◌≡◌, inl, inr, ℕ, ◌+◌, ◌*◌, ◌^◌, ◌<◌, ◌≤◌, ◌||◌, nat_le, nat_lt, Bool, true, false, List, [], ◌∷◌, ◌++◌, length, codes, Option, Some, None, refl, sym, ◌∙◌, ap, subst, arith}
 use Rattle.std.specs.Prelude.{is_some, IsSomeAnd}
 use Rattle.std.specs.Fmt.{decimal}
 use Rattle.std.specs.List.{AllZip}
@@ -16,23 +16,25 @@ use Rattle.gx_parse.specs.declared.statement.Given.{Given}
 use Rattle.gx_parse.specs.Said.{Said, CreateTable, DropTable, Insert, Vacuum}
 use Rattle.gx_parse.specs.Sound.{IsSound}
 use Rattle.gx_value.specs.declared.fields.Column.{Column}
+use Rattle.gx_value.specs.Values.{Datum}
 use Rattle.gx_target.specs.Encoded.{Encode}
 use Rattle.gx_model.specs.Checks.{Check, Find}
-use Rattle.gx_model.specs.Database.{Database, Table, IsValid, table_named, with_rows, with_table, without_table}
-use Rattle.gx_model.specs.Faults.{checks, found_checks, insert_checks, new_column_checks}
+use Rattle.gx_model.specs.Database.{Database, Index, Table, indexes_on, table_named, with_rows, with_table, without_table}
+use Rattle.gx_model.specs.Growth.{growth_of_rows, pages_each}
+use Rattle.gx_model.specs.Faults.{found_checks, insert_checks, new_column_checks}
 use Rattle.gx_model.specs.Replies.{Reply, accepted, line}
-use Rattle.gx_model.specs.Steps.{Costs, Inserts, Stepped, Steps, done, new_table, with_new_table}
+use Rattle.gx_model.specs.Steps.{Costs, Inserts, Stepped, Steps, done, grown, new_table, with_new_table}
 use Rattle.gx_database.specs.Heaps.{Stored}
-use Rattle.gx_database.specs.Standing.{AreStored, IsStored, SpellsStored, StandsFor}
+use Rattle.gx_database.specs.Standing.{AreStored, IsStored, SpellsStored}
 use Rattle.gx_engine.specs.Vacuumed.{IsVacuumed}
-use Rattle.gx_step.specs.Doing.{Done, LacksRoom, growth_in}
+use Rattle.gx_step.specs.Doing.{Done, LacksRoom}
 use Rattle.gx_change.specs.Appended.{AreNumbered}
 use Rattle.gx_step.specs.Opened.{Opened}
 use Rattle.gx_change.proofs.Changed.{table_added, table_changed, table_dropped, table_vacuumed}
 use Rattle.gx_step.proofs.Found.{FindsNone, FindsTables}
 use Rattle.gx_step.proofs.Loading.{IsTold}
 use Rattle.gx_change.proofs.Frame.{HasTable}
-use Rattle.gx_change.proofs.Names.{StaysValid, few_columns, has_short_names}
+use Rattle.gx_change.proofs.Names.{StaysValid, has_short_names}
 use Rattle.gx_change.proofs.NewRows.{numbers_fit, reads_length, spelled_more, zip_join, zip_length}
 
 -- a statement steps a database in one way
@@ -41,6 +43,21 @@ OneStep = (db : Database) (said : Said) (a b : Stepped) → Steps db said a → 
 
 never : (k : ℕ) → Some k ≡ None → ⊥
 never k e = cc
+
+-- an INSERT of these rows, and a table that was made
+abbrev inserted : Database → List ℕ → Table → List (List Given) → List (List (Option Datum)) → Stepped
+inserted db name t rows added = grown (with_table db name (with_rows t added)) (codes "INSERT 0 " ++ decimal (length rows)) (growth_of_rows (indexes_on db name) added)
+
+abbrev created : Database → List ℕ → List ColumnWord → Stepped
+created db name columns = grown (with_new_table db name columns) (codes "CREATE TABLE") pages_each
+
+-- a row may add a page at least
+row_each : (indexes : List Index) (rows : List (List (Option Datum))) → length rows ≤ growth_of_rows indexes rows
+row_each indexes [] = omega arith
+row_each indexes (row ∷ rows) = let rest = row_each indexes rows in omega (arith, rest)
+
+positive : (n : ℕ) → 0 < n → n ≤ 0 → ⊥
+positive n some none = omega (arith, some, none)
 
 -- The checks of a statement on a table that is there.
 pub checks_at : (db : Database) (name : List ℕ) (t : Table) (more : Table → List Check) (found : Option ℕ) → table_named db name ≡ Some t → Find (more t) found → Find (found_checks (table_named db name) more) found
@@ -152,14 +169,12 @@ module _ {P : Type 0} (g : Ghosts P) where
 
   pub insert_steps : (pages : P) (db : Database) (catalog : Directory) (name : List ℕ) (info : TableInfo) (t : HasTable g pages db catalog name info) → info.name ≡ name
       → (listed : Option (List (List ℕ))) (rows : List (List Given)) (bytes : List (List ℕ)) → Find (insert_checks listed rows t.table) None → (encoded : Encode t.table.columns listed rows bytes)
-      → Steps db (Insert name listed rows) (done (with_table db name (with_rows t.table encoded.added)) (codes "INSERT 0 " ++ decimal (length rows)))
+      → Steps db (Insert name listed rows) (inserted db name t.table rows encoded.added)
   insert_steps pages db catalog name info t named listed rows bytes none encoded =
-      let new : Table = with_rows t.table encoded.added in
-      let text : List ℕ = codes "INSERT 0 " ++ decimal (length rows) in
+      let after : Stepped = inserted db name t.table rows encoded.added in
       let same : t.table.name ≡ name = sym t.here.name ∙ named in
-      let inserts : Inserts db listed rows (done (with_table db name new) text) t.table =
-      (encoded.added, encoded.read, ap (λ (n : List ℕ). done (with_table db n new) text) (sym same)) in
-      inr (checks_at db name t.table (insert_checks listed rows) None t.named none, of_table db name t.table (Inserts db listed rows (done (with_table db name new) text)) t.named inserts)
+      let inserts : Inserts db listed rows after t.table = (encoded.added, encoded.read, ap (λ (n : List ℕ). inserted db n t.table rows encoded.added) (sym same)) in
+      inr (checks_at db name t.table (insert_checks listed rows) None t.named none, of_table db name t.table (Inserts db listed rows after) t.named inserts)
 
   pub insert_done : StaysValid → (old first mid last : P) (db : Database) (catalog next : Directory) (name : List ℕ) (info : TableInfo) (t : HasTable g first db catalog name info) → info.name ≡ name
       → IsTold g mid → IsTold g last → (listed : Option (List (List ℕ))) (rows : List (List Given)) (bytes : List (List ℕ)) → Find (insert_checks listed rows t.table) None → Encode t.table.columns listed rows bytes
@@ -170,11 +185,10 @@ module _ {P : Type 0} (g : Ghosts P) where
       → (reply : Reply) → reply ≡ accepted (line (codes "INSERT 0 " ++ decimal (length rows))) → Done g old last (Insert name listed rows) db reply
   insert_done stays old first mid last db catalog next name info t named told_mid told listed rows bytes none encoded heap number more later rest held keeps numbered set tables indexes count reply is =
       let new : Table = with_rows t.table encoded.added in
-      let after : Stepped = done (with_table db name new) (codes "INSERT 0 " ++ decimal (length rows)) in
+      let after : Stepped = inserted db name t.table rows encoded.added in
       let steps : Steps db (Insert name listed rows) after = insert_steps first db catalog name info t named listed rows bytes none encoded in
       let first_number : info.heap.next ≡ t.table.next = next_of first db catalog name info t in
       let many : length bytes ≡ length encoded.added = zip_length _ bytes encoded.added encoded.spelled in
-      let added : length encoded.added ≡ length rows = reads_length t.table.columns _ rows encoded.added encoded.read in
       let spelled : AllZip (SpellsStored t.table.columns) new.rows (t.place.stored.rows ++ more) =
       zip_join (SpellsStored t.table.columns) t.table.rows _ t.place.stored.rows more t.here.rows
       (spelled_more t.table.columns t.table.next bytes encoded.added more encoded.spelled (subst (λ (n : ℕ). AreNumbered n bytes more) first_number numbered)) in
@@ -186,7 +200,7 @@ module _ {P : Type 0} (g : Ghosts P) where
         answered = sym is;
         stands = table_changed g first mid last db catalog next name info t named told_mid told heap (t.place.stored.rows ++ more) later rest new held keeps set tables indexes stored
             (stays db (Insert name listed rows) after t.valid tt steps);
-        grows = omega (arith, count, many, added);
+        grows = omega (arith, count, many, row_each (indexes_on db name) encoded.added);
         vacuumed = tt;
       }
 
@@ -195,44 +209,44 @@ module _ {P : Type 0} (g : Ghosts P) where
       → (count : ℕ) → 0 < length bytes → 2 ^ 50 ≤ count + length bytes → LacksRoom count (Insert name listed rows) db
   insert_lacks_room pages db catalog name info t named listed rows bytes none encoded count some full =
       let many : length bytes ≡ length encoded.added = zip_length _ bytes encoded.added encoded.spelled in
-      let added : length encoded.added ≡ length rows = reads_length t.table.columns _ rows encoded.added encoded.read in
+      let more : length encoded.added ≤ growth_of_rows (indexes_on db name) encoded.added = row_each (indexes_on db name) encoded.added in
       record {
-        stepped = done (with_table db name (with_rows t.table encoded.added)) (codes "INSERT 0 " ++ decimal (length rows));
+        stepped = inserted db name t.table rows encoded.added;
         steps = insert_steps pages db catalog name info t named listed rows bytes none encoded;
         accepted = refl;
-        grows = omega (arith, some, many, added);
-        full = omega (arith, full, many, added);
+        grows = λ none. positive (length bytes) some (omega (arith, many, more, none));
+        full = omega (arith, full, many, more);
       }
 
   -- where its rows are read, it may add a page for each
   pub insert_grows : OneStep → (pages : P) (db : Database) (catalog : Directory) (name : List ℕ) (info : TableInfo) (t : HasTable g pages db catalog name info) → info.name ≡ name
       → (listed : Option (List (List ℕ))) (rows : List (List Given)) (bytes : List (List ℕ)) → Find (insert_checks listed rows t.table) None → Encode t.table.columns listed rows bytes
-      → (stepped : Stepped) → Steps db (Insert name listed rows) stepped → (old new : ℕ) → new ≤ old + length bytes → new ≤ old + growth_in (Insert name listed rows) stepped
+      → (stepped : Stepped) → Steps db (Insert name listed rows) stepped → (old new : ℕ) → new ≤ old + length bytes → new ≤ old + stepped.growth
   insert_grows one pages db catalog name info t named listed rows bytes none encoded stepped steps old new count =
       let many : length bytes ≡ length encoded.added = zip_length _ bytes encoded.added encoded.spelled in
-      let added : length encoded.added ≡ length rows = reads_length t.table.columns _ rows encoded.added encoded.read in
-      let after : Stepped = done (with_table db name (with_rows t.table encoded.added)) (codes "INSERT 0 " ++ decimal (length rows)) in
+      let more : length encoded.added ≤ growth_of_rows (indexes_on db name) encoded.added = row_each (indexes_on db name) encoded.added in
+      let after : Stepped = inserted db name t.table rows encoded.added in
       let same : after ≡ stepped = one db (Insert name listed rows) after stepped (insert_steps pages db catalog name info t named listed rows bytes none encoded) steps in
-      subst (λ (s : Stepped). new ≤ old + growth_in (Insert name listed rows) s) same (omega (arith, count, many, added))
+      subst (λ (s : Stepped). new ≤ old + s.growth) same (omega (arith, count, many, more))
 
   -- CREATE TABLE
 
   pub create_steps : (db : Database) (name : List ℕ) (columns : List ColumnWord) → table_named db name ≡ None → (nat_le 256 (length db.tables) || nat_lt 32 (length columns)) ≡ false
-      → Find (new_column_checks [] columns) None → Steps db (CreateTable name columns) (done (with_new_table db name columns) (codes "CREATE TABLE"))
+      → Find (new_column_checks [] columns) None → Steps db (CreateTable name columns) (created db name columns)
   create_steps db name columns absent few none = inr (inl (ap is_some absent, inl (few, none)), refl)
 
   -- where no check finds a fault, it may add two pages
   pub create_grows : OneStep → (db : Database) (name : List ℕ) (columns : List ColumnWord) → table_named db name ≡ None → (nat_le 256 (length db.tables) || nat_lt 32 (length columns)) ≡ false
-      → Find (new_column_checks [] columns) None → (stepped : Stepped) → Steps db (CreateTable name columns) stepped → (old new : ℕ) → new ≤ old + 2 → new ≤ old + growth_in (CreateTable name columns) stepped
+      → Find (new_column_checks [] columns) None → (stepped : Stepped) → Steps db (CreateTable name columns) stepped → (old new : ℕ) → new ≤ old + 2 → new ≤ old + stepped.growth
   create_grows one db name columns absent few none stepped steps old new count =
-      let after : Stepped = done (with_new_table db name columns) (codes "CREATE TABLE") in
+      let after : Stepped = created db name columns in
       let same : after ≡ stepped = one db (CreateTable name columns) after stepped (create_steps db name columns absent few none) steps in
-      subst (λ (s : Stepped). new ≤ old + growth_in (CreateTable name columns) s) same (omega (arith, count))
+      subst (λ (s : Stepped). new ≤ old + s.growth) same (omega (arith, count))
 
   pub create_lacks_room : (db : Database) (name : List ℕ) (columns : List ColumnWord) → table_named db name ≡ None → (nat_le 256 (length db.tables) || nat_lt 32 (length columns)) ≡ false
       → Find (new_column_checks [] columns) None → (count : ℕ) → 2 ^ 50 ≤ count + 2 → LacksRoom count (CreateTable name columns) db
   create_lacks_room db name columns absent few none count full = record {
-    stepped = done (with_new_table db name columns) (codes "CREATE TABLE");
+    stepped = created db name columns;
     steps = create_steps db name columns absent few none;
     accepted = refl;
     grows = omega arith;
@@ -247,7 +261,7 @@ module _ {P : Type 0} (g : Ghosts P) where
       → next.tables ≡ catalog.tables ++ info ∷ [] → next.indexes ≡ catalog.indexes → g.count last ≤ g.count old + 2
       → (reply : Reply) → reply ≡ accepted (line (codes "CREATE TABLE")) → Done g old last (CreateTable name columns) db reply
   create_done stays old first mid last db catalog next o name columns sound absent few none told_mid told info feet rest named same number held keeps adds tables indexes count reply is =
-      let after : Stepped = done (with_new_table db name columns) (codes "CREATE TABLE") in
+      let after : Stepped = created db name columns in
       let steps : Steps db (CreateTable name columns) after = create_steps db name columns absent few none in
       let stored : IsStored (new_table name columns) info (record { heap = info.heap; rows = []; feet = feet }) = record { name = named; columns = same; heap = refl; next = number; rows = tt } in
       record {

@@ -1,15 +1,13 @@
 -- Pages that stand for a database, seen by their parts, and back.
-use Rattle.std.proofs.Common.{◌≡◌, ℕ, ◌+◌, ◌^◌, ◌<◌, ◌≤◌, List, [], ◌∷◌, ◌++◌, Option, Some, None, refl, sym, ◌∙◌, ap, subst, append_assoc, append-nil, arith}
-use Rattle.std.specs.Prelude.{IfSome}
-use Rattle.gx_words.specs.PageMap.{PageMap}
+use Rattle.std.proofs.Common.{◌≡◌, ℕ, ◌≤◌, List, [], ◌∷◌, ◌++◌, Some, refl, sym, ◌∙◌, subst, append_assoc, append-nil, arith}
 use Rattle.gx_pages.specs.declared.store.Pages.{Ghosts}
 use Rattle.gx_pages.specs.Footprints.{KeepsPages}
-use Rattle.gx_pages.specs.Frees.{HasCount, IsApart, IsFreeList, KeepsHeader}
+use Rattle.gx_pages.specs.Frees.{KeepsHeader}
 use Rattle.gx_heap.specs.declared.heap.Heap.{Heap}
 use Rattle.gx_heap.specs.Heaps.{HoldsHeap}
 use Rattle.gx_catalog.specs.declared.info.TableInfo.{TableInfo}
 use Rattle.gx_catalog.specs.declared.info.IndexInfo.{IndexInfo}
-use Rattle.gx_catalog.specs.Catalogs.{Directory, HoldsCatalog, Stores, chain_on}
+use Rattle.gx_catalog.specs.Catalogs.{Directory, HoldsCatalog, Stores}
 use Rattle.gx_catalog.specs.Validity.{table_named as info_named}
 use Rattle.gx_model.specs.Database.{Database, Table, IsValid, table_named}
 use Rattle.gx_database.specs.Heaps.{Stored, StoresHeap}
@@ -17,7 +15,7 @@ use Rattle.gx_database.specs.Parts.{HasParts, feet_of}
 use Rattle.gx_database.specs.Places.{Place}
 use Rattle.gx_database.specs.Standing.{AreStored, HasHeader, IsStored, StandsFor}
 use Rattle.gx_database.proofs.Changes.{catalog_changed, heaps_changed}
-use Rattle.gx_database.proofs.Views.{catalog_held, heap_held, heap_stored, header_stays, one_count}
+use Rattle.gx_database.proofs.Views.{catalog_held, heap_held, heap_stored, header_stays}
 use Rattle.gx_step.specs.Opened.{Holds, Opened}
 use Rattle.gx_step.proofs.Found.{FindsTables}
 use Rattle.gx_step.proofs.Loading.{IsTold}

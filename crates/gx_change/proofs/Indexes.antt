@@ -1,5 +1,5 @@
 -- The fault of CREATE INDEX, and of DROP INDEX.
-use Rattle.std.proofs.Common.{◌≡◌, inl, inr, ℕ, Bool, true, false, cond, ◌||◌, ◌&&◌, List, [], length, nat_le, codes, IsUtf8, Bor, Option, Some, None, refl, sym, ◌∙◌, ap, subst}
+use Rattle.std.proofs.Common.{◌≡◌, inl, inr, ℕ, Bool, true, false, cond, ◌||◌, List, [], length, nat_le, codes, IsUtf8, Bor, Option, Some, None, refl, sym, ◌∙◌, ap, subst}
 use Rattle.std.specs.Prelude.{bytes_eq, is_none, is_some, option_and_then, option_copied}
 use Rattle.std.proofs.lemmas.Slice.Eq.{bytes_eq-Decides}
 use Rattle.gx_catalog.specs.declared.info.TableInfo.{TableInfo}
@@ -10,10 +10,10 @@ use Rattle.gx_value.specs.declared.types.ColumnType.{ColumnType}
 use Rattle.gx_value.specs.Classes.{method_named}
 use Rattle.gx_parse.specs.declared.statement.Parameter.{Parameter}
 use Rattle.gx_parse.specs.Said.{CreateIndex, DropIndex}
-use Rattle.gx_model.specs.Checks.{Check, Find}
+use Rattle.gx_model.specs.Checks.{Find}
 use Rattle.gx_model.specs.Classes.{class_among, class_chosen, classes}
 use Rattle.gx_model.specs.Conditions.{column_checks}
-use Rattle.gx_model.specs.Database.{Database, Index, Table, column_named, index_named, indexes_on, is_index, most_indexes, table_named}
+use Rattle.gx_model.specs.Database.{Database, Index, Table, column_named, index_named, indexes_on, most_indexes, table_named}
 use Rattle.gx_model.specs.Faults.{checks, class_checks, found_checks, new_index_checks}
 use Rattle.gx_database.specs.Heaps.{Stored}
 use Rattle.gx_database.specs.Standing.{AreStored}

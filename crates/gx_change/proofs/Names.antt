@@ -1,6 +1,5 @@
 -- The table that CREATE TABLE makes.
-use Rattle.std.proofs.Common.{◌≡◌, ◌≢◌, inl, inr, ℕ, ◌<◌, ◌≤◌, nat_le, nat_lt, Bool, true, false, ◌||◌, List, [], ◌∷◌, ◌++◌, length, map, codes, None, refl, sym, ◌∙◌, ap, subst, arith}
-use Rattle.std.specs.Prelude.{is_some}
+use Rattle.std.proofs.Common.{◌≡◌, inl, inr, ℕ, ◌<◌, ◌≤◌, nat_le, nat_lt, false, ◌||◌, List, [], ◌∷◌, length, map, codes, None, refl, sym, subst, arith}
 use Rattle.std.specs.List.{AllByRecursion}
 use Rattle.std.proofs.lemmas.Bool.Decides.{nat_tests}
 use Rattle.gx_value.specs.declared.fields.Column.{Column}
@@ -12,8 +11,9 @@ use Rattle.gx_catalog.specs.Validity as catalogs
 use Rattle.gx_model.specs.Checks.{Find}
 use Rattle.gx_model.specs.Database as model
 use Rattle.gx_model.specs.Database.{Database, IsShort, IsValid, empty}
-use Rattle.gx_model.specs.Faults.{checks, new_column_checks}
-use Rattle.gx_model.specs.Steps.{HasShortNames, Stepped, Steps, done, new_table, with_new_table}
+use Rattle.gx_model.specs.Faults.{new_column_checks}
+use Rattle.gx_model.specs.Steps.{HasShortNames, Stepped, Steps, grown, new_table, with_new_table}
+use Rattle.gx_model.specs.Growth.{pages_each}
 use Rattle.gx_database.proofs.Empty.{empty_stands}
 use Rattle.gx_step.proofs.Names.{or_false, to_catalog}
 
@@ -41,7 +41,7 @@ few_columns n few = grind (arith, nat_tests)
 pub made_table : StaysValid → (name : List ℕ) (columns : List ColumnWord) → IsSound (CreateTable name columns) → length columns ≤ 32 → Find (new_column_checks [] columns) None
     → model.IsTable (new_table name columns)
 made_table stays name columns sound few none =
-    let after : Stepped = done (with_new_table empty name columns) (codes "CREATE TABLE") in
+    let after : Stepped = grown (with_new_table empty name columns) (codes "CREATE TABLE") pages_each in
     let steps : Steps empty (CreateTable name columns) after = inr ((inl (refl, inl (few_columns (length columns) few, none))), refl) in
     (stays empty (CreateTable name columns) after empty_stands.valid (has_short_names name columns sound) steps).tables.0
 

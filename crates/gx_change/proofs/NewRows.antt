@@ -1,5 +1,5 @@
 -- The rows of an INSERT on pages.
-use Rattle.std.proofs.Common.{◌≡◌, ◌⊎◌, inl, inr, ℕ, zero, suc, ◌+◌, ◌^◌, ◌<◌, ◌≤◌, nat_le, false, List, [], ◌∷◌, ◌++◌, length, map, Option, Some, None, refl, sym, ◌∙◌, subst, arith}
+use Rattle.std.proofs.Common.{◌≡◌, inl, inr, ℕ, suc, ◌+◌, ◌^◌, ◌<◌, ◌≤◌, nat_le, false, List, [], ◌∷◌, ◌++◌, length, map, Option, Some, None, refl, sym, subst, arith}
 use Rattle.std.specs.List.{AllZip}
 use Rattle.std.proofs.lemmas.Bool.Decides.{nat_tests}
 use Rattle.gx_heap.specs.Heaps as heaps
@@ -8,7 +8,7 @@ use Rattle.gx_value.specs.Rows.{SpellsRow}
 use Rattle.gx_value.specs.Values.{Datum}
 use Rattle.gx_parse.specs.declared.statement.Given.{Given}
 use Rattle.gx_model.specs.Checks.{Check, Passes, Find, fault_where, fits}
-use Rattle.gx_model.specs.Database.{Row, Table, end_of_numbers, numbered}
+use Rattle.gx_model.specs.Database.{Table, end_of_numbers, numbered}
 use Rattle.gx_model.specs.Faults.{insert_checks, list_checks, rows_checks, values_checks, width_check}
 use Rattle.gx_model.specs.Values.{ReadsRows, named}
 use Rattle.gx_database.specs.Standing.{SpellsStored}

@@ -1,7 +1,6 @@
 -- Replies that refuse, and errors for want of memory.
-use Rattle.std.proofs.Common.{◌≡◌, inl, List, ℕ, ◌+◌, ◌≤◌, Some, Result, Ok, Err, refl, sym, subst, arith}
+use Rattle.std.proofs.Common.{◌≡◌, List, ℕ, Some, Result, Ok, Err}
 use Rattle.std.specs.Prelude.{IfOk}
-use Rattle.gx_words.specs.PageMap.{PageMap}
 use Rattle.gx_pages.specs.declared.error.PageError.{PageError}
 use Rattle.gx_pages.specs.declared.store.Pages.{Ghosts}
 use Rattle.gx_engine.specs.declared.reply.Reply as code
@@ -10,7 +9,7 @@ use Rattle.gx_parse.specs.Said.{Said}
 use Rattle.gx_model.specs.Checks.{Find}
 use Rattle.gx_model.specs.Database.{Database}
 use Rattle.gx_model.specs.Faults.{checks}
-use Rattle.gx_model.specs.Replies.{Reply, accepted, line, refusal}
+use Rattle.gx_model.specs.Replies.{Reply, accepted, refusal}
 use Rattle.gx_database.specs.Standing.{StandsFor}
 use Rattle.gx_step.specs.Doing.{Done}
 use Rattle.gx_step.proofs.Same.{refused_done}

@@ -1,5 +1,5 @@
 -- The rows of INSERT are read, or some check finds a fault.
-use Rattle.std.proofs.Common.{◌≡◌, ◌⊎◌, inl, inr, ℕ, ◌<◌, ◌≤◌, ◌==◌, nat_le, nat_lt, suc, Bool, true, false, not, ◌||◌, cond, List, [], ◌∷◌, ◌++◌, length, map, Option, Some, None, refl, sym, ◌∙◌, ap, subst, arith}
+use Rattle.std.proofs.Common.{◌≡◌, ◌⊎◌, inl, inr, ℕ, ◌<◌, ◌≤◌, ◌==◌, nat_le, nat_lt, suc, Bool, true, false, not, ◌||◌, List, [], ◌∷◌, ◌++◌, length, map, Option, Some, None, refl, ap, arith}
 use Rattle.std.specs.Prelude.{is_none}
 use Rattle.std.specs.List.{AllByRecursion, filter_map, list_any}
 use Rattle.std.specs.Str.{bytes_eq}
@@ -10,7 +10,7 @@ use Rattle.gx_value.specs.Values.{Datum, IsField}
 use Rattle.gx_value.specs.Literals.{Reads}
 use Rattle.gx_parse.specs.declared.statement.Given.{Given}
 use Rattle.gx_parse.specs.Sound.{IsGiven, RowsHaveLiterals}
-use Rattle.gx_model.specs.Checks.{Check, Find, Passes, Fails, fault_where, is_value, fits}
+use Rattle.gx_model.specs.Checks.{Fails, fault_where, is_value, fits}
 use Rattle.gx_model.specs.Conditions.{cast_type, is_unknown_type}
 use Rattle.gx_model.specs.Database.{AreDistinct, Table, column_named, end_of_numbers}
 use Rattle.gx_model.specs.Faults.{list_checks, listed_checks, width_of, is_of_other_width, width_check, is_other_type, value_checks, values_checks, rows_checks, insert_checks}

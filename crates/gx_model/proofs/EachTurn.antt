@@ -1,8 +1,8 @@
 -- Each statement has a step, and each piece a turn.
-use Rattle.std.proofs.Common.{◌≡◌, ◌⊎◌, inl, inr, ℕ, ◌≤◌, nat_le, nat_lt, Bool, true, false, not, ◌||◌, ◌&&◌, List, [], ◌∷◌, ◌++◌, length, map, Option, Some, None, refl, sym, ap, subst}
-use Rattle.std.specs.Prelude.{find, is_none, is_some, codes, IsSomeAnd}
+use Rattle.std.proofs.Common.{◌≡◌, inl, inr, ℕ, nat_le, nat_lt, true, false, ◌||◌, ◌&&◌, List, [], ◌∷◌, ◌++◌, length, map, Option, Some, None, refl, sym, ap, subst}
+use Rattle.std.specs.Prelude.{is_none, is_some, codes, IsSomeAnd}
 use Rattle.std.specs.Fmt.{decimal}
-use Rattle.std.specs.List.{AllByRecursion, list_any}
+use Rattle.std.specs.List.{list_any}
 use Rattle.std.specs.Str.{bytes_eq}
 use Rattle.gx_value.specs.declared.classes.Class.{Class}
 use Rattle.gx_value.specs.declared.fields.Column.{Column}
@@ -15,22 +15,22 @@ use Rattle.gx_parse.specs.declared.statement.Parameter.{Parameter}
 use Rattle.gx_parse.specs.Said.{Said, Query, Nothing, CreateTable, DropTable, CreateIndex, DropIndex, Insert, Delete, Select, Explain, Vacuum, Checkpoint, Begin, Commit, Rollback}
 use Rattle.gx_parse.specs.Sound.{HasLiterals}
 use Rattle.gx_parse.specs.Trees.{Tree}
-use Rattle.gx_model.specs.Checks.{Check, Find, fault_where}
+use Rattle.gx_model.specs.Checks.{fault_where}
 use Rattle.gx_model.specs.Classes.{class_chosen}
 use Rattle.gx_model.specs.Conditions.{column_checks, where_checks}
 use Rattle.gx_model.specs.Database.{Database, Table, IsTable, IsValid, OfTable, is_table, table_named, index_named, column_named, indexes_on, with_table, with_rows, without_table, without_index, most_tables, most_columns, most_indexes}
-use Rattle.gx_model.specs.Faults.{checks, type_of, new_column_checks, new_table_checks, class_checks, new_index_checks, parameter_checks, insert_checks, asked_checks, query_checks}
-use Rattle.gx_model.specs.Plans.{Plan, Whole, plan_where, plan_text, Finds}
-use Rattle.gx_model.specs.Replies.{Reply, accepted, refusal}
-use Rattle.gx_model.specs.Steps.{Stepped, Steps, Does, Inserts, Deletes, Selects, Explains, done, with_new_table, others, selected, selection, explanation, growth_of}
+use Rattle.gx_model.specs.Faults.{checks, type_of, new_column_checks, new_table_checks, class_checks, new_index_checks, parameter_checks, insert_checks, asked_checks}
+use Rattle.gx_model.specs.Growth.{growth_of_rows, pages_each}
+use Rattle.gx_model.specs.Plans.{found, plan_where, plan_text}
+use Rattle.gx_model.specs.Replies.{accepted, refusal}
+use Rattle.gx_model.specs.Steps.{Stepped, Steps, Does, Inserts, Deletes, Selects, Explains, done, with_new_table, others, selected, selection, explanation, grown, unchanged}
 use Rattle.gx_model.specs.Totality.{AreTotal}
-use Rattle.gx_model.specs.Turns.{Session, Block, idle, begun, failed, AreValid, seen, with_seen, session_over, refused, answered, silent, Turned, Turns, TurnsSeen, TurnsIdle, TurnsBegun, TurnsFailed, TurnsIn, TurnsSaid, TurnsRead, TurnsBy, reading_of}
+use Rattle.gx_model.specs.Turns.{Session, Block, idle, begun, failed, AreValid, seen, with_seen, refused, Turned, Turns, TurnsSeen, TurnsIdle, TurnsBegun, TurnsFailed, TurnsIn, TurnsSaid, TurnsBy, reading_of}
 use Rattle.gx_model.specs.Values.{named, ReadsRows}
 use Rattle.gx_model.proofs.Coming.{Comes, more, join, nothing, tested, column, table, where_comes, BoundWhere}
 use Rattle.gx_model.proofs.ComingRows.{insert_comes}
 use Rattle.gx_model.proofs.Lists.{all_found}
 use Rattle.gx_model.proofs.StaysValid.{none_chosen}
-use Rattle.gx_model.proofs.WholePlans.{whole_where}
 
 -- an accepted statement does something
 abbrev Done : Database → Said → Type 0
@@ -56,7 +56,7 @@ create_table db name columns =
     let there = is_some (table_named db name) in
     let full = nat_le most_tables (length db.tables) || nat_lt most_columns (length columns) in
     let rest = new_column_checks [] columns in
-    more (new_table_checks db name columns) (λ (h : (there ≡ false) × ((full ≡ false) × Unit {0})). (done (with_new_table db name columns) (codes "CREATE TABLE"), refl))
+    more (new_table_checks db name columns) (λ (h : (there ≡ false) × ((full ≡ false) × Unit {0})). (grown (with_new_table db name columns) (codes "CREATE TABLE") pages_each, refl))
     (join (fault_where 3 there ∷ []) (fault_where 16 full ∷ rest) (tested 3 there)
     (λ _. join (fault_where 16 full ∷ []) rest (tested 16 full) (λ _. columns_come [] columns)))
 
@@ -104,17 +104,13 @@ query_comes total q t are =
 
 selects : (db : Database) (q : Query) (t : Table) → table_named db q.table ≡ Some t → BoundWhere t.columns q.condition → Done db (Select q)
 selects db q t some bound =
-    let s : Stepped = record { database = db; reply = accepted (selection t q.columns (selected bound.0 t)) } in
+    let s = unchanged db (accepted (selection t q.columns (selected bound.0 t))) in
     (s, of_table db q.table t (Selects db q s) some (bound.0, bound.1, refl))
 
-finds_whole : (t : Table) (p : Plan) → p ≡ Whole → Finds t p t.rows
-finds_whole t p whole = subst (λ (p : Plan). Finds t p t.rows) (sym whole) refl
-
-explains : (db : Database) (q : Query) (t : Table) → db.indexes ≡ [] → table_named db q.table ≡ Some t → BoundWhere t.columns q.condition → Done db (Explain q)
-explains db q t bare some bound =
-    let by = plan_where db t bound.0 in
-    let s : Stepped = record { database = db; reply = accepted (explanation (plan_text by) (length t.rows) (length (selected bound.0 t))) } in
-    (s, of_table db q.table t (Explains db q s) some (bound.0, t.rows, bound.1, finds_whole t by (whole_where db t bound.0 bare), refl))
+explains : (db : Database) (q : Query) (t : Table) → table_named db q.table ≡ Some t → BoundWhere t.columns q.condition → Done db (Explain q)
+explains db q t some bound =
+    let s = unchanged db (accepted (explanation (plan_text (plan_where db t bound.0)) (length (found db t bound.0)) (length (selected bound.0 t)))) in
+    (s, of_table db q.table t (Explains db q s) some (bound.0, bound.1, refl))
 
 deletes : (db : Database) (name : List ℕ) (tree : Option Tree) (t : Table) → table_named db name ≡ Some t → BoundWhere t.columns tree → Done db (Delete name tree)
 deletes db name tree t some bound =
@@ -124,12 +120,12 @@ deletes db name tree t some bound =
 inserts : (db : Database) (name : List ℕ) (listed : Option (List (List ℕ))) (rows : List (List Given)) (t : Table) → table_named db name ≡ Some t → (added : List (List (Option Datum))) × ReadsRows t.columns (named t.columns listed) rows added
     → Done db (Insert name listed rows)
 inserts db name listed rows t some read =
-    let s = done (with_table db t.name (with_rows t read.0)) (codes "INSERT 0 " ++ decimal (length rows)) in
+    let s = grown (with_table db t.name (with_rows t read.0)) (codes "INSERT 0 " ++ decimal (length rows)) (growth_of_rows (indexes_on db t.name) read.0) in
     (s, of_table db name t (Inserts db listed rows s) some (read.0, read.1, refl))
 
 -- each statement is accepted, or has a fault
 comes : AreTotal → (db : Database) (said : Said) → IsValid db → HasLiterals said → Comes (Done db said) (checks db said)
-comes total db Nothing valid are = nothing (record { database = db; reply = accepted [] }, refl)
+comes total db Nothing valid are = nothing (unchanged db (accepted []), refl)
 comes total db (CreateTable name columns) valid are = create_table db name columns
 comes total db (DropTable name) valid are = table db name (λ t. []) (λ t some. nothing (done (without_table db name) (codes "DROP TABLE"), refl))
 comes total db (CreateIndex name on method column_name class parameter) valid are =
@@ -147,7 +143,7 @@ comes total db (Select q) valid are =
     (λ t some. more (asked_checks t.columns q.columns ++ where_checks t.columns q.condition) (selects db q t some) (query_comes total q t are))
 comes total db (Explain q) valid are =
     table db q.table (λ t. asked_checks t.columns q.columns ++ where_checks t.columns q.condition)
-    (λ t some. more (asked_checks t.columns q.columns ++ where_checks t.columns q.condition) (explains db q t valid.no_index some) (query_comes total q t are))
+    (λ t some. more (asked_checks t.columns q.columns ++ where_checks t.columns q.condition) (explains db q t some) (query_comes total q t are))
 comes total db (Vacuum name) valid are = table db name (λ t. []) (λ t some. nothing (done db (codes "VACUUM"), refl))
 comes total db Checkpoint valid are = nothing (done db (codes "CHECKPOINT"), refl)
 comes total db Begin valid are = nothing (done db (codes "BEGIN"), refl)
@@ -156,7 +152,7 @@ comes total db Rollback valid are = nothing (done db (codes "ROLLBACK"), refl)
 
 step_of : (db : Database) (said : Said) → Comes (Done db said) (checks db said) → (stepped : Stepped) × Steps db said stepped
 step_of db said (inl h) = (h.0.0, inr (h.1, h.0.1))
-step_of db said (inr h) = (record { database = db; reply = refusal h.0 }, inl (h.0, h.1, refl))
+step_of db said (inr h) = (unchanged db (refusal h.0), inl (h.0, h.1, refl))
 
 pub each_step : AreTotal → (db : Database) (said : Said) → IsValid db → HasLiterals said → (stepped : Stepped) × Steps db said stepped
 each_step total db said valid are = step_of db said (comes total db said valid are)
@@ -168,7 +164,7 @@ Has P = (turned : Turned) × P turned
 
 seen_step : (session : Session) (said : Said) → Comes (Done (seen session) said) (checks (seen session) said) → Has (TurnsSeen session said)
 seen_step session said (inl h) =
-    (record { session = with_seen session h.0.0.database; reply = h.0.0.reply; growth = growth_of said }, inr (h.1, h.0.0, h.0.1, refl))
+    (record { session = with_seen session h.0.0.database; reply = h.0.0.reply; growth = h.0.0.growth }, inr (h.1, h.0.0, h.0.1, refl))
 seen_step session said (inr h) = (refused session (refusal h.0), inl (h.0, h.1, refl))
 
 module _ (total : AreTotal) (session : Session) (valid : AreValid session) where

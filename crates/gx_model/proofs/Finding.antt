@@ -1,6 +1,6 @@
 -- What checks find, one list behind another.
-use Rattle.std.proofs.Common.{◌≡◌, ◌⊎◌, inl, inr, ℕ, List, [], ◌∷◌, ◌++◌, Option, Some, None, refl}
-use Rattle.gx_model.specs.Checks.{Check, Passes, Fails, Find}
+use Rattle.std.proofs.Common.{inl, inr, ℕ, List, [], ◌∷◌, ◌++◌, Option, Some, None, refl}
+use Rattle.gx_model.specs.Checks.{Check, Find}
 use Rattle.gx_model.specs.Refusals.{Refuses}
 use Rattle.gx_model.specs.declared.refusal.Refusal.{Refusal}
 use Rattle.gx_model.specs.declared.refusal.Refusal.TheVariants.{Fault, Memory}

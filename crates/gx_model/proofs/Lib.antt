@@ -1,6 +1,6 @@
 pub mod Finding
 mod Tables
-mod Stepping
+pub mod Stepping
 mod Turning
 mod Literals
 mod OneTurn

@@ -1,28 +1,21 @@
 -- A piece has one cost in a session.
-use Rattle.std.proofs.Common.{◌≡◌, ◌⊎◌, inl, inr, ℕ, ◌+◌, ◌*◌, List, Option, Some, None, sym, ◌∙◌, ap, subst}
+use Rattle.std.proofs.Common.{◌≡◌, ◌⊎◌, inl, inr, ℕ, ◌+◌, ◌*◌, List, Option, Some, None, sym, ◌∙◌, ap}
 use Rattle.gx_parse.specs.Answers.{Answer, says, wrong_at, too_deep}
 use Rattle.gx_parse.specs.Said.{Said, DropTable, CreateIndex, Insert, Delete, Select, Explain, Vacuum}
 use Rattle.gx_parse.specs.Trees.{Tree}
 use Rattle.gx_model.specs.Checks.{Check, Find}
 use Rattle.gx_model.specs.Database.{Database, Table, table_named}
 use Rattle.gx_model.specs.Faults.{checks}
-use Rattle.gx_model.specs.Plans.{Plan, Whole, One, Both, Either, FindsFor, plan_where}
+use Rattle.gx_model.specs.Plans.{price_where}
 use Rattle.gx_model.specs.Steps.{QueryCosts, CostsTwice, CostsOf, Costs}
 use Rattle.gx_model.specs.Truth.{Bound}
 use Rattle.gx_model.specs.Turns.{Session, Block, idle, begun, failed, CostsRefused, CostsBegun, CostsIn, CostsBy, TurnCosts, reading_of}
 use Rattle.gx_model.proofs.OneTurn.{Facts, found_both, one_where}
 use Rattle.gx_model.proofs.Tables.{there, of_some}
 
-one_price : (t : Table) (p : Plan) (a b : ℕ) → FindsFor t p a → FindsFor t p b → a ≡ b
-one_price t Whole a b h k = h ∙ sym k
-one_price t (One index) a b h k = absurd h.1
-one_price t (Both x y) a b h k = absurd h.1
-one_price t (Either x y) a b h k = absurd h.1
-
 of_query : Facts → (db : Database) (tree : Option Tree) (a b : ℕ) (t : Table) → QueryCosts db tree a t → QueryCosts db tree b t → a ≡ b
 of_query facts db tree a b t h k =
-    let c = one_where facts t.columns tree h.0 k.0 h.1 k.1 in
-    one_price t (plan_where db t k.0) a b (subst (λ (x : Option Bound). FindsFor t (plan_where db t x) a) c h.2) k.2
+    h.2 ∙ ap (λ (c : Option Bound). price_where db t c) (one_where facts t.columns tree h.0 k.0 h.1 k.1) ∙ sym k.2
 
 of_twice : Facts → (db : Database) (tree : Option Tree) (a b : ℕ) (t : Table) → CostsTwice db tree a t → CostsTwice db tree b t → a ≡ b
 of_twice facts db tree a b t h k = h.2 ∙ ap (λ (n : ℕ). 2 * n) (of_query facts db tree h.0 k.0 t h.1 k.1) ∙ sym k.2

@@ -1,7 +1,7 @@
 -- Where there is room, the pieces of a script are done in one way.
-use Rattle.std.proofs.Common.{◌≡◌, ◌⊎◌, inl, inr, ℕ, ◌+◌, ◌^◌, ◌<◌, ◌≤◌, List, [], ◌∷◌, length, refl, sym, ◌∙◌, ap, subst, arith}
+use Rattle.std.proofs.Common.{◌≡◌, inl, inr, ℕ, ◌+◌, ◌^◌, ◌<◌, ◌≤◌, List, [], ◌∷◌, length, refl, sym, ◌∙◌, ap, subst, arith}
 use Rattle.gx_model.specs.Replies.{Reply}
-use Rattle.gx_model.specs.Runs.{State, Done, Does, AreDone, Answers, HasRoom, after}
+use Rattle.gx_model.specs.Runs.{State, Done, Does, AreDone, Answers, HasRoom}
 use Rattle.gx_model.specs.Turns.{Session, Turned}
 use Rattle.gx_model.proofs.OneTurn.{Facts, one_turn}
 

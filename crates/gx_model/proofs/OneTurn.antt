@@ -1,5 +1,5 @@
 -- A session and a piece have one turn.
-use Rattle.std.proofs.Common.{◌≡◌, ◌⊎◌, inl, inr, ℕ, ◌<◌, ◌≤◌, Bool, true, false, List, [], ◌∷◌, ◌++◌, length, Option, Some, None, refl, sym, ◌∙◌, ap, subst, codes, arith}
+use Rattle.std.proofs.Common.{◌≡◌, inl, inr, ℕ, ◌<◌, ◌≤◌, Bool, true, false, List, [], ◌∷◌, ◌++◌, length, map, Option, Some, None, refl, sym, ◌∙◌, ap, subst, codes, arith}
 use Rattle.std.specs.Prelude.{IsSomeAnd}
 use Rattle.std.specs.Fmt.{decimal}
 use Rattle.gx_value.specs.declared.fields.Column.{Column}
@@ -17,11 +17,12 @@ use Rattle.gx_parse.specs.Trees as trees
 use Rattle.gx_model.specs.Checks.{Check, fault_where, is_value, is_operand, fits, Passes, Fails, Find}
 use Rattle.gx_model.specs.Conditions.{Binds, BindsWhere, BindsAtom, BindsLiteral, operand_type}
 use Rattle.gx_model.specs.Classes.{class_chosen, parameter_chosen}
-use Rattle.gx_model.specs.Database.{Database, Table, Row, Index, column_named, place_of, table_named, with_rows, with_table}
+use Rattle.gx_model.specs.Database.{Database, Table, Index, column_named, indexes_on, place_of, table_named, with_rows, with_table}
 use Rattle.gx_model.specs.Faults.{checks}
-use Rattle.gx_model.specs.Plans.{Plan, Whole, One, Both, Either, Finds, plan_where, plan_text}
+use Rattle.gx_model.specs.Growth.{growth_of_rows, growth_of_index}
+use Rattle.gx_model.specs.Plans.{found, plan_where, plan_text}
 use Rattle.gx_model.specs.Replies.{accepted}
-use Rattle.gx_model.specs.Steps.{Stepped, Steps, Does, Inserts, Deletes, Selects, Explains, IsNewIndex, done, others, selected, selection, explanation, growth_of}
+use Rattle.gx_model.specs.Steps.{Stepped, Steps, Does, Inserts, Deletes, Selects, Explains, IsNewIndex, done, others, selected, selection, explanation, grown, unchanged, Indexes}
 use Rattle.gx_model.specs.Truth.{Bound, And, Or, Not, Atom, IsNull, Operand}
 use Rattle.gx_model.specs.Turns.{Session, Block, idle, begun, failed, Turned, Turns, TurnsSeen, TurnsIdle, TurnsBegun, TurnsFailed, TurnsIn, TurnsSaid, TurnsBy, reading_of, seen, refused, with_seen}
 use Rattle.gx_model.specs.Replies.{refusal}
@@ -148,12 +149,6 @@ one_where facts columns (Some t) (Some x) (Some y) p q = ap (λ (b : Bound). Som
 
 -- Statements.
 
-one_found : (t : Table) (p : Plan) (a b : List Row) → Finds t p a → Finds t p b → a ≡ b
-one_found t Whole a b h k = h ∙ sym k
-one_found t (One index) a b h k = absurd h
-one_found t (Both x y) a b h k = absurd h
-one_found t (Either x y) a b h k = absurd h
-
 abbrev index_by : List ℕ → List ℕ → ℕ → Class → ℕ → Index
 index_by name table column class parameter = record { name = name; table = table; column = column; class = class; parameter = parameter }
 
@@ -183,15 +178,17 @@ one_effect facts db Nothing x y p q = p ∙ sym q
 one_effect facts db (CreateTable name columns) x y p q = p ∙ sym q
 one_effect facts db (DropTable name) x y p q = p ∙ sym q
 one_effect facts db (CreateIndex name table method column class parameter) x y p q =
-    let k = there (table_named db table) (IsNewIndex p.0 name table method column class parameter) p.1 in
-    let m = of_some (table_named db table) (IsNewIndex q.0 name table method column class parameter) k.0 k.1 q.1 in
-    p.2 ∙ ap (λ (i : Index). done (record db { indexes = db.indexes ++ i ∷ [] }) (codes "CREATE INDEX")) (one_index p.0 q.0 name table method column class parameter k.0 k.2 m) ∙ sym q.2
+    let k = there (table_named db table) (Indexes db name table method column class parameter x) p in
+    let m = of_some (table_named db table) (Indexes db name table method column class parameter y) k.0 k.1 q in
+    let t = k.0 in
+    k.2.2 ∙ ap (λ (i : Index). grown (record db { indexes = db.indexes ++ i ∷ [] }) (codes "CREATE INDEX") (growth_of_index i (map (λ row. row.fields) t.rows)))
+    (one_index k.2.0 m.0 name table method column class parameter t k.2.1 m.1) ∙ sym m.2
 one_effect facts db (DropIndex name) x y p q = p ∙ sym q
 one_effect facts db (Insert table listed rows) x y p q =
     let k = there (table_named db table) (Inserts db listed rows x) p in
     let m = of_some (table_named db table) (Inserts db listed rows y) k.0 k.1 q in
     let t = k.0 in
-    k.2.2 ∙ ap (λ (added : List (List (Option Datum))). done (with_table db t.name (with_rows t added)) (codes "INSERT 0 " ++ decimal (length rows)))
+    k.2.2 ∙ ap (λ (added : List (List (Option Datum))). grown (with_table db t.name (with_rows t added)) (codes "INSERT 0 " ++ decimal (length rows)) (growth_of_rows (indexes_on db t.name) added))
     (one_rows facts t.columns (named t.columns listed) rows k.2.0 m.0 k.2.1 m.1) ∙ sym m.2
 one_effect facts db (Delete table tree) x y p q =
     let k = there (table_named db table) (Deletes db tree x) p in
@@ -203,16 +200,14 @@ one_effect facts db (Select query) x y p q =
     let k = there (table_named db query.table) (Selects db query x) p in
     let m = of_some (table_named db query.table) (Selects db query y) k.0 k.1 q in
     let t = k.0 in
-    k.2.2 ∙ ap (λ (c : Option Bound). let s : Stepped = record { database = db; reply = accepted (selection t query.columns (selected c t)) } in s)
+    k.2.2 ∙ ap (λ (c : Option Bound). unchanged db (accepted (selection t query.columns (selected c t))))
     (one_where facts t.columns query.condition k.2.0 m.0 k.2.1 m.1) ∙ sym m.2
 one_effect facts db (Explain query) x y p q =
     let k = there (table_named db query.table) (Explains db query x) p in
     let m = of_some (table_named db query.table) (Explains db query y) k.0 k.1 q in
     let t = k.0 in
-    let c = one_where facts t.columns query.condition k.2.0 m.0 k.2.2 m.2 in
-    let r = one_found t (plan_where db t m.0) k.2.1 m.1 (subst (λ (b : Option Bound). Finds t (plan_where db t b) k.2.1) c k.2.3) m.3 in
-    k.2.4 ∙ ap (λ (b : Option Bound). let s : Stepped = record { database = db; reply = accepted (explanation (plan_text (plan_where db t b)) (length k.2.1) (length (selected b t))) } in s) c
-    ∙ ap (λ (rows : List Row). let s : Stepped = record { database = db; reply = accepted (explanation (plan_text (plan_where db t m.0)) (length rows) (length (selected m.0 t))) } in s) r ∙ sym m.4
+    k.2.2 ∙ ap (λ (c : Option Bound). unchanged db (accepted (explanation (plan_text (plan_where db t c)) (length (found db t c)) (length (selected c t)))))
+    (one_where facts t.columns query.condition k.2.0 m.0 k.2.1 m.1) ∙ sym m.2
 one_effect facts db (Vacuum table) x y p q = p ∙ sym q
 one_effect facts db Checkpoint x y p q = p ∙ sym q
 one_effect facts db Begin x y p q = p ∙ sym q
@@ -231,7 +226,7 @@ same_number n m e = cc
 
 pub one_step : Facts → (db : Database) (said : Said) (x y : Stepped) → Steps db said x → Steps db said y → x ≡ y
 one_step facts db said x y (inl p) (inl q) =
-    p.2 ∙ ap (λ (n : ℕ). let s : Stepped = record { database = db; reply = refusal n } in s) (same_number p.0 q.0 (one_find facts (checks db said) (Some p.0) (Some q.0) p.1 q.1)) ∙ sym q.2
+    p.2 ∙ ap (λ (n : ℕ). unchanged db (refusal n)) (same_number p.0 q.0 (one_find facts (checks db said) (Some p.0) (Some q.0) p.1 q.1)) ∙ sym q.2
 one_step facts db said x y (inl p) (inr q) = absurd (found_both facts (checks db said) p.0 p.1 q.0)
 one_step facts db said x y (inr p) (inl q) = absurd (found_both facts (checks db said) q.0 q.1 p.0)
 one_step facts db said x y (inr p) (inr q) = one_effect facts db said x y p.1 q.1
@@ -244,7 +239,7 @@ of_seen facts session said x y (inl p) (inl q) =
 of_seen facts session said x y (inl p) (inr q) = absurd (found_both facts (checks (seen session) said) p.0 p.1 q.0)
 of_seen facts session said x y (inr p) (inl q) = absurd (found_both facts (checks (seen session) said) q.0 q.1 p.0)
 of_seen facts session said x y (inr p) (inr q) =
-    p.3 ∙ ap (λ (s : Stepped). let t : Turned = record { session = with_seen session s.database; reply = s.reply; growth = growth_of said } in t) (one_effect facts (seen session) said p.1 q.1 p.2 q.2) ∙ sym q.3
+    p.3 ∙ ap (λ (s : Stepped). let t : Turned = record { session = with_seen session s.database; reply = s.reply; growth = s.growth } in t) (one_effect facts (seen session) said p.1 q.1 p.2 q.2) ∙ sym q.3
 
 of_idle : Facts → (session : Session) (said : Said) (x y : Turned) → TurnsIdle session said x → TurnsIdle session said y → x ≡ y
 of_idle facts session Begin x y p q = p ∙ sym q

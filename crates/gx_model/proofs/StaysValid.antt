@@ -1,5 +1,5 @@
 -- Every step of a valid database leaves a valid one.
-use Rattle.std.proofs.Common.{◌≡◌, ◌⊎◌, inl, inr, ℕ, suc, ◌+◌, ◌^◌, ◌≤◌, ◌<◌, nat_le, nat_lt, Bool, true, false, not, ◌||◌, cond, List, [], ◌∷◌, ◌++◌, length, map, Option, Some, None, refl, sym, ◌∙◌, ap, subst, arith}
+use Rattle.std.proofs.Common.{◌≡◌, inl, inr, ℕ, suc, ◌+◌, ◌≤◌, nat_le, nat_lt, Bool, true, false, not, ◌||◌, cond, List, [], ◌∷◌, ◌++◌, length, map, Option, Some, None, refl, sym, ◌∙◌, ap, subst, arith}
 use Rattle.std.specs.Prelude.{find, filter, is_some, is_none, option_and_then, IsSomeAnd}
 use Rattle.std.specs.List.{AllByRecursion, filter_map, list_any}
 use Rattle.std.specs.Str.{bytes_eq}
@@ -19,7 +19,7 @@ use Rattle.gx_model.specs.Checks.{Check, Find, fault_where}
 use Rattle.gx_model.specs.Classes.{class_among, class_chosen}
 use Rattle.gx_model.specs.Database.{Database, Table, Row, Index, IsTable, IsIndex, IsValid, IsRowOf, IsShort, AreDistinct, is_table, table_named, column_named, with_table, without_table, without_index, with_rows, numbered, most_tables, most_columns, most_indexes, end_of_numbers}
 use Rattle.gx_model.specs.Faults.{checks, found_checks, type_of, new_column_checks, new_table_checks, insert_checks, list_checks, width_check, rows_checks}
-use Rattle.gx_model.specs.Steps.{Stepped, Steps, Does, Inserts, Deletes, Selects, Explains, IsNewIndex, column_of, new_table, with_new_table, others, HasShortNames}
+use Rattle.gx_model.specs.Steps.{Stepped, Steps, Does, Inserts, Deletes, Selects, Explains, Indexes, column_of, new_table, with_new_table, others, HasShortNames}
 use Rattle.gx_model.specs.Truth.{selects}
 use Rattle.gx_model.specs.Values.{named}
 use Rattle.gx_model.proofs.Lists.{all_push, all_join, all_found, all_kept, map_join, length_map, length_push, no_longer, any_cons, any_behind, other_way, distinct_push, distinct_kept, rises_join, rises_kept}
@@ -251,8 +251,8 @@ effect_valid facts db Nothing s v n f h = other db s _ h v
 effect_valid facts db (CreateTable name columns) s v n f h = other db s _ h (created db name columns v n f)
 effect_valid facts db (DropTable name) s v n f h = other db s _ h (dropped db name v)
 effect_valid facts db (CreateIndex name table method column class parameter) s v n f h =
-    let k = there (table_named db table) (IsNewIndex h.0 name table method column class parameter) h.1 in
-    absurd (no_class k.0.columns column method class h.0.class k.2.class_is)
+    let k = there (table_named db table) (Indexes db name table method column class parameter s) h in
+    absurd (no_class k.0.columns column method class k.2.0.class k.2.1.class_is)
 effect_valid facts db (DropIndex name) s v n f h = other db s _ h (index_dropped db name v)
 effect_valid facts db (Insert table listed rows) s v n f h =
     let k = there (table_named db table) (Inserts db listed rows s) h in
@@ -261,7 +261,7 @@ effect_valid facts db (Delete table tree) s v n f h =
     let k = there (table_named db table) (Deletes db tree s) h in
     deleted db tree s k.0 v (all_found IsTable (is_table table) db.tables k.0 v.tables k.1) k.2
 effect_valid facts db (Select q) s v n f h = let k = there (table_named db q.table) (Selects db q s) h in other db s _ k.2.2 v
-effect_valid facts db (Explain q) s v n f h = let k = there (table_named db q.table) (Explains db q s) h in other db s _ k.2.4 v
+effect_valid facts db (Explain q) s v n f h = let k = there (table_named db q.table) (Explains db q s) h in other db s _ k.2.2 v
 effect_valid facts db (Vacuum table) s v n f h = other db s _ h v
 effect_valid facts db Checkpoint s v n f h = other db s _ h v
 effect_valid facts db Begin s v n f h = other db s _ h v

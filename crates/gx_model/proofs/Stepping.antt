@@ -1,5 +1,5 @@
 -- What accepted and refused statements leave.
-use Rattle.std.proofs.Common.{◌≡◌, ◌⊎◌, inl, inr, ℕ, Bool, false, not, List, [], ◌∷◌, ◌++◌, length, Option, Some, None, refl, ◌∙◌, ap, codes}
+use Rattle.std.proofs.Common.{◌≡◌, inl, inr, ℕ, Bool, false, not, List, ◌++◌, length, Option, Some, None, refl, ◌∙◌, ap, codes}
 use Rattle.std.specs.Prelude.{IsSome, ◌↔◌}
 use Rattle.std.specs.Fmt.{decimal}
 use Rattle.std.specs.List.{flat_map}
@@ -10,7 +10,7 @@ use Rattle.gx_parse.specs.Trees.{Tree}
 use Rattle.gx_model.specs.Conditions.{BindsWhere}
 use Rattle.gx_model.specs.Database.{Database, Table, Row, IsIn, table_named, with_rows}
 use Rattle.gx_model.specs.Replies.{line, row_line}
-use Rattle.gx_model.specs.Steps.{Stepped, Steps, Does, Inserts, Deletes, Selects, Explains, Accepts, select_all, others, selected, selection}
+use Rattle.gx_model.specs.Steps.{Stepped, Steps, Does, Indexes, Inserts, Deletes, Selects, Explains, Accepts, select_all, others, selected, selection}
 use Rattle.gx_model.specs.Truth.{Bound, selects}
 use Rattle.gx_model.specs.Values.{named, ReadsRows}
 use Rattle.gx_model.proofs.Tables.{there, of_some, table_after, kept, stays, not_true, not_false, kept_all}
@@ -23,12 +23,12 @@ pub no_fault : (db : Database) (said : Said) (s : Stepped) → Does db said s �
 no_fault db Nothing s h = ap fault_in h
 no_fault db (CreateTable name columns) s h = ap fault_in h
 no_fault db (DropTable name) s h = ap fault_in h
-no_fault db (CreateIndex name table method column class parameter) s h = ap fault_in h.2
+no_fault db (CreateIndex name table method column class parameter) s h = let k = there (table_named db table) (Indexes db name table method column class parameter s) h in ap fault_in k.2.2
 no_fault db (DropIndex name) s h = ap fault_in h
 no_fault db (Insert table listed rows) s h = let k = there (table_named db table) (Inserts db listed rows s) h in ap fault_in k.2.2
 no_fault db (Delete table condition) s h = let k = there (table_named db table) (Deletes db condition s) h in ap fault_in k.2.2
 no_fault db (Select q) s h = let k = there (table_named db q.table) (Selects db q s) h in ap fault_in k.2.2
-no_fault db (Explain q) s h = let k = there (table_named db q.table) (Explains db q s) h in ap fault_in k.2.4
+no_fault db (Explain q) s h = let k = there (table_named db q.table) (Explains db q s) h in ap fault_in k.2.2
 no_fault db (Vacuum table) s h = ap fault_in h
 no_fault db Checkpoint s h = ap fault_in h
 no_fault db Begin s h = ap fault_in h

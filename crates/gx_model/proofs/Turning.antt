@@ -1,5 +1,5 @@
 -- What turns leave of a session.
-use Rattle.std.proofs.Common.{◌≡◌, ◌⊎◌, inl, inr, ℕ, List, [], ◌∷◌, Option, Some, None, refl, ◌∙◌, ap, subst}
+use Rattle.std.proofs.Common.{◌≡◌, inl, inr, ℕ, List, Option, Some, None, refl, ◌∙◌, ap, subst}
 use Rattle.std.specs.Prelude.{IsSome}
 use Rattle.gx_parse.specs.Answers.{Answer, says, wrong_at, too_deep}
 use Rattle.gx_parse.specs.Said.{Said, Nothing, Vacuum, Checkpoint, Begin, Commit, Rollback}

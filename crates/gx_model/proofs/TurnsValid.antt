@@ -1,5 +1,5 @@
 -- Every turn of a valid session leaves a valid one.
-use Rattle.std.proofs.Common.{◌≡◌, ◌⊎◌, inl, inr, ℕ, Bool, true, false, cond, nat_lt, List, [], ◌∷◌, length, map, Option, Some, None, refl, sym, ap, subst}
+use Rattle.std.proofs.Common.{◌≡◌, inl, inr, ℕ, Bool, true, false, cond, nat_lt, List, [], ◌∷◌, length, map, Option, Some, None, refl, sym, ap, subst}
 use Rattle.std.specs.List.{AllByRecursion}
 use Rattle.gx_lexer.specs.Feeding.{longest}
 use Rattle.gx_parse.specs.Answers.{Answer, says, wrong_at, too_deep, answer_of}

@@ -7,6 +7,7 @@ pub mod Values
 pub mod Classes
 pub mod Faults
 pub mod Replies
+pub mod Growth
 pub mod Plans
 pub mod Steps
 pub mod Turns

@@ -12,21 +12,31 @@ use Rattle.gx_model.specs.Checks.{Find}
 use Rattle.gx_model.specs.Classes.{class_chosen, parameter_chosen}
 use Rattle.gx_model.specs.Conditions.{BindsWhere}
 use Rattle.gx_value.specs.declared.fields.Column.{Column}
-use Rattle.gx_model.specs.Database.{Database, Table, Row, Index, OfTable, column_named, place_of, with_table, without_table, without_index, with_rows, IsShort}
+use Rattle.gx_model.specs.Database.{Database, Table, Row, Index, OfTable, indexes_on, column_named, place_of, with_table, without_table, without_index, with_rows, IsShort}
 use Rattle.gx_model.specs.Faults.{checks, type_of}
-use Rattle.gx_model.specs.Plans.{plan_where, plan_text, Finds, FindsFor}
+use Rattle.gx_model.specs.Growth.{pages_each, growth_of_rows, growth_of_index}
+use Rattle.gx_model.specs.Plans.{plan_where, plan_text, found, price_where}
 use Rattle.gx_model.specs.Replies.{Reply, line, accepted, refusal, row_line}
 use Rattle.gx_model.specs.Truth.{Bound, selects}
 use Rattle.gx_model.specs.Values.{named, ReadsRows}
 
--- the database afterwards, and the reply
+-- the database afterwards, the reply, and how many pages the statement may add
 pub record Stepped : Type 0 where
   pub database : Database
   pub reply : Reply
+  pub growth : ℕ
 
--- the statement is accepted with this line
+-- The statement is accepted with this line, and may add so many pages,
+abbrev pub grown : Database → List ℕ → ℕ → Stepped
+grown db text pages = record { database = db; reply = accepted (line text); growth = pages }
+
+-- or none.
 abbrev pub done : Database → List ℕ → Stepped
-done db text = record { database = db; reply = accepted (line text) }
+done db text = grown db text 0
+
+-- The statement changes nothing, and is answered so.
+abbrev pub unchanged : Database → Reply → Stepped
+unchanged db reply = record { database = db; reply = reply; growth = 0 }
 
 -- CREATE TABLE: a table without rows, behind the others. Its first row will have the number 1.
 
@@ -48,11 +58,16 @@ pub record IsNewIndex (index : Index) (name table method column : List ℕ) (cla
   pub class_is : IsSomeAnd (column_named t.columns column) (λ c. class_chosen c.kind method class ≡ Some index.class)
   pub parameter_is : parameter_chosen index.class parameter ≡ Some index.parameter
 
+abbrev pub Indexes : Database → List ℕ → List ℕ → List ℕ → List ℕ → Option (List ℕ) → Option Parameter → Stepped → Table → Type 0
+Indexes db name table method column class parameter stepped t =
+    (index : Index) × IsNewIndex index name table method column class parameter t
+    × (stepped ≡ grown (record db { indexes = db.indexes ++ index ∷ [] }) (codes "CREATE INDEX") (growth_of_index index (map (λ row. row.fields) t.rows)))
+
 -- INSERT: rows behind the others, with the next numbers.
 abbrev pub Inserts : Database → Option (List (List ℕ)) → List (List Given) → Stepped → Table → Type 0
 Inserts db listed rows stepped t =
     (added : List (List (Option Datum))) × ReadsRows t.columns (named t.columns listed) rows added
-    × (stepped ≡ done (with_table db t.name (with_rows t added)) (codes "INSERT 0 " ++ decimal (length rows)))
+    × (stepped ≡ grown (with_table db t.name (with_rows t added)) (codes "INSERT 0 " ++ decimal (length rows)) (growth_of_rows (indexes_on db t.name) added))
 
 -- the rows of which a condition is true, and the others
 abbrev pub selected : Option Bound → Table → List Row
@@ -74,7 +89,7 @@ selection t asked rows = flat_map (row_line t.columns (named t.columns asked)) r
 abbrev pub Selects : Database → Query → Stepped → Table → Type 0
 Selects db q stepped t =
     (condition : Option Bound) × BindsWhere t.columns q.condition condition
-    × (stepped ≡ record { database = db; reply = accepted (selection t q.columns (selected condition t)) })
+    × (stepped ≡ unchanged db (accepted (selection t q.columns (selected condition t))))
 
 -- EXPLAIN ANALYZE: the plan, how many rows it finds, and of how many of them the condition is true.
 abbrev pub explanation : List ℕ → ℕ → ℕ → List ℕ
@@ -83,17 +98,16 @@ explanation by candidates rows =
 
 abbrev pub Explains : Database → Query → Stepped → Table → Type 0
 Explains db q stepped t =
-    (condition : Option Bound) × (candidates : List Row) × BindsWhere t.columns q.condition condition × Finds t (plan_where db t condition) candidates
-    × (stepped ≡ record { database = db; reply = accepted (explanation (plan_text (plan_where db t condition)) (length candidates) (length (selected condition t))) })
+    (condition : Option Bound) × BindsWhere t.columns q.condition condition
+    × (stepped ≡ unchanged db (accepted (explanation (plan_text (plan_where db t condition)) (length (found db t condition)) (length (selected condition t)))))
 
 -- What an accepted statement does. What belongs to a session does nothing to a database.
 abbrev pub Does : Database → Said → Stepped → Type 0
-Does db Nothing stepped = stepped ≡ record { database = db; reply = accepted [] }
-Does db (CreateTable name columns) stepped = stepped ≡ done (with_new_table db name columns) (codes "CREATE TABLE")
+Does db Nothing stepped = stepped ≡ unchanged db (accepted [])
+Does db (CreateTable name columns) stepped = stepped ≡ grown (with_new_table db name columns) (codes "CREATE TABLE") pages_each
 Does db (DropTable name) stepped = stepped ≡ done (without_table db name) (codes "DROP TABLE")
 Does db (CreateIndex name table method column class parameter) stepped =
-    (index : Index) × OfTable db table (IsNewIndex index name table method column class parameter)
-    × (stepped ≡ done (record db { indexes = db.indexes ++ index ∷ [] }) (codes "CREATE INDEX"))
+    OfTable db table (Indexes db name table method column class parameter stepped)
 Does db (DropIndex name) stepped = stepped ≡ done (without_index db name) (codes "DROP INDEX")
 Does db (Insert table listed rows) stepped = OfTable db table (Inserts db listed rows stepped)
 Does db (Delete table condition) stepped = OfTable db table (Deletes db condition stepped)
@@ -108,19 +122,13 @@ Does db Rollback stepped = stepped ≡ done db (codes "ROLLBACK")
 -- A statement whose checks find a fault changes nothing and is answered with the fault's line; another does what it says.
 abbrev pub Steps : Database → Said → Stepped → Type 0
 Steps db said stepped =
-    ((n : ℕ) × Find (checks db said) (Some n) × (stepped ≡ record { database = db; reply = refusal n }))
+    ((n : ℕ) × Find (checks db said) (Some n) × (stepped ≡ unchanged db (refusal n)))
     ⊎ (Find (checks db said) None × Does db said stepped)
-
--- the most pages that an accepted statement adds. Of an INSERT and of an index the entries of indexes count too, once there are classes.
-abbrev pub growth_of : Said → ℕ
-growth_of (CreateTable name columns) = 128
-growth_of (Insert table listed rows) = 128 * length rows
-growth_of _ = 0
 
 -- The most heap pages that an accepted statement fetches.
 
 abbrev pub QueryCosts : Database → Option Tree → ℕ → Table → Type 0
-QueryCosts db tree cost t = (condition : Option Bound) × BindsWhere t.columns tree condition × FindsFor t (plan_where db t condition) cost
+QueryCosts db tree cost t = (condition : Option Bound) × BindsWhere t.columns tree condition × (cost ≡ price_where db t condition)
 
 abbrev pub CostsTwice : Database → Option Tree → ℕ → Table → Type 0
 CostsTwice db tree cost t = (once : ℕ) × QueryCosts db tree once t × (cost ≡ 2 * once)

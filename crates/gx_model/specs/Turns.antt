@@ -7,7 +7,7 @@ use Rattle.gx_model.specs.Checks.{Find}
 use Rattle.gx_model.specs.Database.{Database, IsValid}
 use Rattle.gx_model.specs.Faults.{checks}
 use Rattle.gx_model.specs.Replies.{Reply, line, accepted, refusal, syntax_error}
-use Rattle.gx_model.specs.Steps.{Stepped, Does, Costs, growth_of}
+use Rattle.gx_model.specs.Steps.{Stepped, Does, Costs}
 
 -- The block of a session: none is open, one is open with a database of its own, or it has failed.
 pub data Block : Type 0 where
@@ -80,7 +80,7 @@ TurnsSeen session said turned =
     ((n : ℕ) × Find (checks (seen session) said) (Some n) × (turned ≡ refused session (refusal n)))
     ⊎ (Find (checks (seen session) said) None
     × (stepped : Stepped) × Does (seen session) said stepped
-    × (turned ≡ record { session = with_seen session stepped.database; reply = stepped.reply; growth = growth_of said }))
+    × (turned ≡ record { session = with_seen session stepped.database; reply = stepped.reply; growth = stepped.growth }))
 
 -- Outside a block each statement is a transaction of its own.
 abbrev pub TurnsIdle : Session → Said → Turned → Type 0

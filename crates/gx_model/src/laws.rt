@@ -1,6 +1,6 @@
 //! Laws of the model, which say what its definitions come to.
 
-ghost use Rattle.std.specs.Prelude.{◌≡◌, ◌↔◌, ℕ, ◌-◌, min, max, false, List, ◌++◌, length, codes, Option, Some, None, IsSome};
+ghost use Rattle.std.specs.Prelude.{◌≡◌, ◌↔◌, ℕ, ◌-◌, min, max, false, List, [], ◌++◌, length, codes, Option, Some, None, IsSome};
 ghost use Rattle.std.specs.Fmt.{decimal};
 ghost use Rattle.std.specs.List.{flat_map};
 ghost use Rattle.gx_value.specs.declared.operators.Operator.{Operator};
@@ -12,6 +12,7 @@ ghost use Rattle.gx_parse.specs.Sound.{IsSound};
 ghost use Rattle.gx_parse.specs.Trees.{Tree};
 ghost use Rattle.gx_model.specs.Conditions.{BindsWhere};
 ghost use Rattle.gx_model.specs.Database.{Database, Table, Row, IsIn, IsValid, table_named, with_rows};
+ghost use Rattle.gx_model.specs.Plans.{Whole, plan_where, found};
 ghost use Rattle.gx_model.specs.Replies.{line, row_line};
 ghost use Rattle.gx_model.specs.Runs.{State, Done, AreDone, HasRoom};
 ghost use Rattle.gx_model.specs.Steps.{Stepped, Steps, Accepts, select_all, HasShortNames};
@@ -91,6 +92,12 @@ pub fn three_values()
     ensures greatest { (a b : Truth) → rank (or_of a b) ≡ max (rank a) (rank b) }
     ensures turned { (a : Truth) → rank (not_of a) ≡ 2 - rank a }
     ensures null { (op : Operator) (operand : Option Operand) → truth_of_atom op None operand ≡ Unknown }
+{}
+
+/// Where the plan of a condition is the whole table, as it is without indexes, each row is found.
+pub fn whole_tables()
+    ensures found { (db : Database) (t : Table) (condition : Option Bound) → plan_where db t condition ≡ Whole → found db t condition ≡ t.rows }
+    ensures bare { (db : Database) (t : Table) (condition : Option Bound) → db.indexes ≡ [] → plan_where db t condition ≡ Whole }
 {}
 
 /// Where there is room for all that the pieces may add, as many of them are done in one way.

@@ -1,9 +1,9 @@
 -- The earliest index on a column of a table, by the table's number and by its name.
-use Rattle.std.proofs.Common.{◌≡◌, ◌≢◌, ℕ, ◌+◌, ◌*◌, ◌^◌, ◌<◌, ◌≤◌, ◌==◌, zero, suc, Bool, true, false, not, cond, ◌&&◌, nat_lt, List, [], ◌∷◌, length, map, find, bytes_eq, Option, Some, None, MatchOption, IsSomeAnd, slice_get, refl, sym, ◌∙◌, ap, subst, arith}
+use Rattle.std.proofs.Common.{◌≡◌, ℕ, ◌+◌, ◌*◌, ◌^◌, ◌<◌, ◌≤◌, ◌==◌, suc, Bool, true, false, not, cond, ◌&&◌, nat_lt, List, [], ◌∷◌, length, map, bytes_eq, Option, Some, None, MatchOption, IsSomeAnd, slice_get, refl, sym, ◌∙◌, ap, subst, arith}
 use Rattle.std.specs.Bool.{Decides}
 use Rattle.std.specs.List.{AllByRecursion, position_or_len, position}
 use Rattle.std.proofs.lemmas.Bool.{ltb-true}
-use Rattle.std.proofs.lemmas.Bool.Decides.{Decides-eqb, nat_tests}
+use Rattle.std.proofs.lemmas.Bool.Decides.{Decides-eqb}
 use Rattle.std.proofs.lemmas.List.Folds.{find_at}
 use Rattle.std.proofs.lemmas.List.Sums.{sum_by-append}
 use Rattle.std.proofs.lemmas.Option.{slice_get_past}
@@ -19,9 +19,7 @@ use Rattle.gx_model.specs.Database.{Index}
 use Rattle.gx_model.specs.Plans as model
 use Rattle.gx_model.specs.Truth as truth
 use Rattle.gx_plan.specs.Indexes.{name_of, index_of, indexes_of, is_on}
-use Rattle.gx_plan.specs.Plans.{plan_of, plan_on, indexes_in, at_place, IsChosen, IsWithin, Joins}
-use Rattle.gx_plan.specs.declared.plan.Plan.{Plan}
-use Rattle.gx_plan.specs.declared.plan.Plan.TheVariants as plan
+use Rattle.gx_plan.specs.Plans.{plan_of, plan_on, indexes_in, at_place, IsChosen, IsWithin}
 use Rattle.gx_plan.proofs.PlanLemmas.{placed, within}
 
 -- what the look-ups of tables find

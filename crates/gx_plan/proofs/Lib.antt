@@ -5,3 +5,4 @@ mod OperandLemmas
 pub mod PlanLemmas
 mod TruthLemmas
 mod WordLemmas
+mod Losing

@@ -1,12 +1,11 @@
 -- Plans over a list of indexes.
-use Rattle.std.proofs.Common.{◌≡◌, ◌≢◌, ℕ, ◌<◌, ◌≤◌, zero, suc, Bool, true, false, cond, nat_lt, List, [], ◌∷◌, ◌++◌, length, map, codes, Option, Some, None, slice_get, refl, sym, ◌∙◌, ap, subst, append_assoc, arith}
+use Rattle.std.proofs.Common.{◌≡◌, ◌≢◌, ℕ, ◌<◌, ◌≤◌, zero, suc, Bool, true, false, cond, nat_lt, List, [], ◌∷◌, length, Option, Some, None, slice_get, refl, sym, ap, arith}
 use Rattle.std.proofs.lemmas.Bool.{ltb-true}
 use Rattle.std.proofs.lemmas.Option.{slice_get_past}
 use Rattle.std.proofs.lemmas.Bool.Decides.{nat_tests}
-use Rattle.gx_catalog.specs.declared.info.IndexInfo.{IndexInfo}
 use Rattle.gx_model.specs.Database.{Index}
 use Rattle.gx_model.specs.Plans as model
-use Rattle.gx_plan.specs.Plans.{plan_of, at_place, is_table, IsWithin, Joins}
+use Rattle.gx_plan.specs.Plans.{plan_of, at_place, is_table, IsWithin}
 use Rattle.gx_plan.specs.declared.plan.Plan.{Plan}
 use Rattle.gx_plan.specs.declared.plan.Plan.TheVariants as plan
 

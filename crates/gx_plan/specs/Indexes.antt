@@ -1,6 +1,5 @@
 -- The indexes of a catalog, as those of a database.
 use Rattle.std.specs.Prelude.{ℕ, ◌==◌, Bool, ◌&&◌, List, [], map, Option, None, Some}
-use Rattle.gx_value.specs.declared.classes.Class.{Class}
 use Rattle.gx_catalog.specs.declared.info.IndexInfo.{IndexInfo}
 use Rattle.gx_catalog.specs.declared.info.TableInfo.{TableInfo}
 use Rattle.gx_catalog.specs.Validity.{table_numbered}

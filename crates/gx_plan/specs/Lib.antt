@@ -1,4 +1,5 @@
 pub mod Bindings
 pub mod Bounds
 pub mod Indexes
+pub mod Losing
 pub mod Plans

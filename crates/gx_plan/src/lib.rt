@@ -4,10 +4,12 @@
 mod binding;
 mod bound;
 mod choosing;
+mod laws;
 mod operand;
 mod plan;
 
 pub use binding::bind;
 pub use bound::{Bound, Truth};
 pub use choosing::choose_plan;
+pub use laws::loses_none;
 pub use plan::{Plan, print_plan};

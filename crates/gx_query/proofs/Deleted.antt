@@ -1,5 +1,5 @@
 -- What DELETE leaves of a database on pages.
-use Rattle.std.proofs.Common.{◌≡◌, ◌⊎◌, inl, inr, ℕ, ◌+◌, ◌*◌, ◌^◌, ◌≤◌, List, [], Option, None, Some, refl, sym, ◌∙◌, ap, subst, arith}
+use Rattle.std.proofs.Common.{◌≡◌, ◌⊎◌, inl, inr, ℕ, ◌+◌, ◌*◌, ◌^◌, ◌≤◌, List, Option, None, Some, refl, sym, ◌∙◌, ap, subst, arith}
 use Rattle.std.specs.Prelude.{IfSome}
 use Rattle.gx_words.specs.PageMap.{PageMap}
 use Rattle.gx_pages.specs.declared.store.Pages.{Ghosts}
@@ -70,11 +70,11 @@ module _ {P : Type 0} (g : Ghosts P) (old mid new : P) (db : Database) (s : Stan
     done_so condition reply find binds is removed =
         let steps = delete_steps db name tree t named condition reply find binds is in
         record {
-          stepped = record { database = deleted db t condition; reply = reply };
+          stepped = record { database = deleted db t condition; reply = reply; growth = 0 };
           steps = steps;
           answered = refl;
           stands = stands_then g mid new db (stands_mid g old mid db s map) counted bounded name info t named place is_info condition removed later counts ends
-              (valid db (Delete name tree) (record { database = deleted db t condition; reply = reply }) s.valid sound steps);
+              (valid db (Delete name tree) (record { database = deleted db t condition; reply = reply; growth = 0 }) s.valid sound steps);
           grows = omega (arith, later, count);
           vacuumed = tt;
         }

@@ -1,7 +1,6 @@
 -- The pages stand for the database without the rows that were removed.
-use Rattle.std.proofs.Common.{◌≡◌, ℕ, ◌+◌, ◌^◌, ◌≤◌, Bool, true, false, cond, List, [], ◌∷◌, ◌++◌, map, Option, None, Some, refl, sym, ◌∙◌, ap, subst, append_assoc, append-nil, arith}
+use Rattle.std.proofs.Common.{◌≡◌, ℕ, ◌^◌, ◌≤◌, Bool, true, false, cond, List, [], ◌∷◌, ◌++◌, Option, None, Some, refl, sym, ◌∙◌, ap, subst, append_assoc, append-nil, arith}
 use Rattle.std.specs.Prelude.{IfSome, find}
-use Rattle.std.specs.Str.{bytes_eq}
 use Rattle.std.proofs.lemmas.Slice.Eq.{bytes_eq-Decides}
 use Rattle.gx_pages.specs.declared.store.Pages.{Ghosts}
 use Rattle.gx_pages.specs.Footprints.{KeepsPages}
@@ -17,7 +16,7 @@ use Rattle.gx_database.specs.Standing.{HasHeader, IsStored, AreStored, StandsFor
 use Rattle.gx_database.proofs.Changes.{heaps_changed}
 use Rattle.gx_database.proofs.Exchange.{exchanged}
 use Rattle.gx_database.proofs.Views.{heap_stored, header_stays}
-use Rattle.gx_query.specs.Tables.{HoldsTable, Removed}
+use Rattle.gx_query.specs.Tables.{Removed}
 use Rattle.gx_query.proofs.Standing.{parts, same_count}
 use Rattle.gx_query.proofs.Steps.{deleted}
 

@@ -2,14 +2,14 @@
 use Rattle.std.proofs.Common.{◌≡◌, ◌≢◌, ◌⊎◌, inl, inr, ⊎_elim, ℕ, ◌+◌, ◌<◌, ◌≤◌, ◌==◌, List, [], ◌∷◌, ◌++◌, length, map, refl, sym, ◌∙◌, ap, subst, append_assoc, append-nil, arith}
 use Rattle.std.proofs.lemmas.List.{length-append, length-map}
 use Rattle.std.proofs.lemmas.Grind.{flat_map-append}
-use Rattle.std.specs.List.{AllByRecursion, AllZip, filter}
+use Rattle.std.specs.List.{AllByRecursion, AllZip}
 use Rattle.gx_words.specs.PageMap.{PageMap}
 use Rattle.gx_pages.specs.declared.store.Pages.{Ghosts}
 use Rattle.gx_pages.specs.Frees.{IsApart}
 use Rattle.gx_pages.proofs.Footprints.{all_right, apart_before, outside_none, times, times-append, times_one}
 use Rattle.gx_chain.specs.Chains.{Link, AreLinkedTo, first_of, pages_of}
 use Rattle.gx_heap.specs.declared.heap.Heap.{Heap}
-use Rattle.gx_heap.specs.Heaps.{Row, HoldsHeap, chain_of, first_page, rows_in, rows_on}
+use Rattle.gx_heap.specs.Heaps.{Row, HoldsHeap, first_page, rows_in, rows_on}
 use Rattle.gx_query.proofs.Lists.{kept}
 
 links_some : (map : PageMap) (kind end : ℕ) (links : List Link) → AreLinkedTo map kind end links → AllByRecursion (λ page. page ≢ 0) (pages_of links)

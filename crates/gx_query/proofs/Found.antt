@@ -1,13 +1,11 @@
 -- A table that the catalog finds is the database's table of the name, and what a statement that changes nothing leaves.
-use Rattle.std.proofs.Common.{◌≡◌, ◌≢◌, ◌⊎◌, inl, inr, ℕ, ◌+◌, ◌^◌, ◌≤◌, Bool, true, false, ◌||◌, cond, List, [], ◌∷◌, ◌++◌, map, Option, None, Some, Result, Ok, Err, refl, sym, ◌∙◌, subst, arith}
+use Rattle.std.proofs.Common.{◌≡◌, ◌⊎◌, inl, inr, ℕ, ◌+◌, ◌^◌, ◌≤◌, Bool, true, false, cond, List, [], ◌∷◌, map, Option, None, Some, Result, Ok, Err, refl, sym, ◌∙◌, subst, arith}
 use Rattle.std.specs.Prelude.{IfSome, IfOk, IfErr, bytes_eq, find}
-use Rattle.std.specs.List.{AllByRecursion, list_any}
-use Rattle.std.proofs.lemmas.Slice.Eq.{bytes_eq-Decides}
-use Rattle.gx_words.specs.PageMap.{PageMap}
+use Rattle.std.specs.List.{AllByRecursion}
 use Rattle.gx_pages.specs.declared.store.Pages.{Ghosts}
-use Rattle.gx_pages.specs.Frees.{HasCount, IsApart, IsFreeList}
+use Rattle.gx_pages.specs.Frees.{HasCount}
 use Rattle.gx_value.specs.declared.fields.Column.{Column}
-use Rattle.gx_catalog.specs.Catalogs.{Directory, HoldsCatalog, Stores}
+use Rattle.gx_catalog.specs.Catalogs.{Directory}
 use Rattle.gx_catalog.specs.Validity as catalogs
 use Rattle.gx_catalog.specs.declared.info.IndexInfo.{IndexInfo}
 use Rattle.gx_catalog.specs.declared.info.TableInfo.{TableInfo}
@@ -16,9 +14,7 @@ use Rattle.gx_model.specs.Database as model
 use Rattle.gx_model.specs.Database.{Database, Table, table_named}
 use Rattle.gx_model.specs.Replies.{Reply, refusal}
 use Rattle.gx_model.specs.Steps.{Costs}
-use Rattle.gx_database.specs.Heaps.{Stored}
-use Rattle.gx_database.specs.Places.{Place}
-use Rattle.gx_database.specs.Standing.{AreStored, StandsFor}
+use Rattle.gx_database.specs.Standing.{StandsFor}
 use Rattle.gx_step.specs.Doing.{Done}
 use Rattle.gx_step.specs.Opened.{IsLoaded}
 use Rattle.gx_step.proofs.Found.{FindsNone, FindsTables}

@@ -1,5 +1,5 @@
 -- The plan of a query without indexes.
-use Rattle.std.proofs.Common.{◌≡◌, ◌≢◌, ℕ, Bool, false, List, [], ◌∷◌, ◌++◌, length, codes, Option, None, Some, refl, sym, ◌∙◌, ap, subst, append_assoc}
+use Rattle.std.proofs.Common.{◌≡◌, ◌≢◌, ℕ, false, List, [], ◌∷◌, ◌++◌, length, codes, Option, None, Some, refl, sym, ◌∙◌, ap, subst, append_assoc}
 use Rattle.std.specs.Fmt.{decimal}
 use Rattle.gx_catalog.specs.Catalogs.{Directory}
 use Rattle.gx_catalog.specs.Validity.{table_numbered}
@@ -17,7 +17,7 @@ use Rattle.gx_plan.specs.declared.plan.Plan.{Plan}
 use Rattle.gx_plan.proofs.PlanLemmas.{not_whole}
 use Rattle.gx_query.specs.Answers.{explained_reply}
 use Rattle.gx_query.specs.Planned.{IsChosenWhere}
-use Rattle.gx_query.proofs.Steps.{whole_plan}
+use Rattle.gx_model.proofs.WholePlans.{whole_plan}
 
 whole_on : (indexes : List Index) → indexes ≡ [] → (o : Option TableInfo) (b : Bound) → plan_on indexes o b ≡ model.Whole
 whole_on indexes none None b = refl

@@ -1,8 +1,7 @@
 -- A table of a database on the pages that stand for the database.
-use Rattle.std.proofs.Common.{◌≡◌, ◌≢◌, ◌⊎◌, inl, inr, ⊎_elim, ℕ, ◌+◌, ◌*◌, ◌^◌, ◌<◌, ◌≤◌, Bool, true, false, List, [], ◌∷◌, ◌++◌, length, map, Option, None, Some, refl, sym, ◌∙◌, ap, subst, arith}
+use Rattle.std.proofs.Common.{◌≡◌, ℕ, ◌^◌, ◌≤◌, List, [], ◌∷◌, ◌++◌, map, refl, sym, ◌∙◌, ap, subst}
 use Rattle.std.specs.Prelude.{IfSome}
-use Rattle.std.specs.List.{AllByRecursion, AllZip}
-use Rattle.gx_words.specs.PageMap.{PageMap}
+use Rattle.std.specs.List.{AllByRecursion}
 use Rattle.gx_pages.specs.declared.store.Pages.{Ghosts}
 use Rattle.gx_pages.specs.Frees.{HasCount, IsApart, IsFreeList}
 use Rattle.gx_pages.proofs.Footprints.{all_right}
@@ -12,11 +11,11 @@ use Rattle.gx_heap.proofs.Finds.{heap_same}
 use Rattle.gx_catalog.specs.Catalogs.{Stores, chain_on}
 use Rattle.gx_catalog.specs.declared.info.IndexInfo.{IndexInfo}
 use Rattle.gx_catalog.specs.declared.info.TableInfo.{TableInfo}
-use Rattle.gx_model.specs.Database.{Database, Table, IsTable, table_named}
+use Rattle.gx_model.specs.Database.{Database, Table, IsTable}
 use Rattle.gx_database.specs.Heaps.{Stored}
 use Rattle.gx_database.specs.Parts.{HasParts}
 use Rattle.gx_database.specs.Places.{Place}
-use Rattle.gx_database.specs.Standing.{IsStored, AreStored, StandsFor}
+use Rattle.gx_database.specs.Standing.{IsStored, StandsFor}
 use Rattle.gx_database.proofs.Views.{catalog_held, heap_held, one_count}
 use Rattle.gx_query.specs.Tables.{HoldsTable}
 

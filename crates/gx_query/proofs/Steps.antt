@@ -1,39 +1,19 @@
 -- Steps of statements that look for rows, and what they cost.
-use Rattle.std.proofs.Common.{◌≡◌, ◌⊎◌, inl, inr, ⊎_elim, ℕ, ◌+◌, ◌*◌, ◌≤◌, Bool, true, false, List, [], ◌∷◌, ◌++◌, length, Option, None, Some, refl, sym, ◌∙◌, ap, subst, arith}
+use Rattle.std.proofs.Common.{◌≡◌, inl, inr, ℕ, ◌+◌, ◌*◌, List, [], ◌++◌, length, Option, None, Some, refl, sym, ◌∙◌, ap, subst}
 use Rattle.std.specs.Prelude.{codes, IsSomeAnd}
 use Rattle.std.specs.Fmt.{decimal}
 use Rattle.gx_parse.specs.Said.{Said, Query, Select, Explain, Delete}
 use Rattle.gx_parse.specs.Trees.{Tree}
 use Rattle.gx_model.specs.Checks.{Check, Find}
 use Rattle.gx_model.specs.Conditions.{BindsWhere, where_checks}
-use Rattle.gx_model.specs.Database.{Database, Table, Index, Row, IsValid, table_named, with_table}
+use Rattle.gx_model.specs.Database.{Database, Table, table_named, with_table}
 use Rattle.gx_model.specs.Faults.{checks, found_checks}
-use Rattle.gx_model.specs.Plans.{Plan, Whole, plan, plan_where, plan_text, Finds, FindsFor, both, either, by_index}
+use Rattle.gx_model.proofs.WholePlans.{whole_found, whole_where}
+use Rattle.gx_model.specs.Plans.{Plan, Whole, found, plan_where, plan_text, price}
 use Rattle.gx_model.specs.Replies.{Reply, accepted, line, refusal}
-use Rattle.gx_model.specs.Steps.{Stepped, Steps, Costs, QueryCosts, CostsTwice, Selects, Explains, Deletes, selected, selection, explanation, others, done}
-use Rattle.gx_model.specs.Truth.{Bound, And, Or, Not, Atom, IsNull, Operand}
-use Rattle.gx_value.specs.declared.operators.Operator.{Operator}
+use Rattle.gx_model.specs.Steps.{Stepped, Steps, Costs, QueryCosts, CostsTwice, Selects, Explains, Deletes, selected, selection, explanation, others, unchanged}
+use Rattle.gx_model.specs.Truth.{Bound}
 use Rattle.gx_query.specs.Answers.{Refused, Passes, Answers, checks_of, select_reply, explain_reply, explained_reply, delete_reply}
-
--- Without indexes the plan is the whole table.
-atom_whole : (name : List ℕ) (place : ℕ) (op : Operator) (operand : Option Operand) → plan [] name (Atom place op operand) ≡ Whole
-atom_whole name place op None = refl
-atom_whole name place op (Some operand) = refl
-
-null_whole : (name : List ℕ) (place : ℕ) (negated : Bool) → plan [] name (IsNull place negated) ≡ Whole
-null_whole name place false = refl
-null_whole name place true = refl
-
-pub whole_plan : (name : List ℕ) (b : Bound) → plan [] name b ≡ Whole
-whole_plan name (And a b) = (λ i. both (whole_plan name a i) (plan [] name b)) ∙ whole_plan name b
-whole_plan name (Or a b) = (λ i. either (whole_plan name a i) (plan [] name b))
-whole_plan name (Not a) = refl
-whole_plan name (Atom place op operand) = atom_whole name place op operand
-whole_plan name (IsNull place negated) = null_whole name place negated
-
-pub whole_where : (db : Database) (t : Table) (condition : Option Bound) → db.indexes ≡ [] → plan_where db t condition ≡ Whole
-whole_where db t None none = refl
-whole_where db t (Some b) none = ap (λ (l : List Index). plan l t.name b) none ∙ whole_plan t.name b
 
 -- no table of the name is there
 pub none_found : (o : Option Table) (more : Table → List Check) → o ≡ None → Find (found_checks o more) (Some 2)
@@ -49,57 +29,53 @@ of_table o t Q some so = subst (λ (p : Option Table). IsSomeAnd p Q) (sym some)
 pub table_of : (o : Option Table) (t : Table) (Q : Table → Type 0) → o ≡ Some t → IsSomeAnd o Q → Q t
 table_of o t Q some so = subst (λ (p : Option Table). IsSomeAnd p Q) some so
 
-refused_step : (db : Database) (said : Said) (reply : Reply) (n : ℕ) → Find (checks db said) (Some n) → reply ≡ refusal n → Steps db said (record { database = db; reply = reply })
-refused_step db said reply n find is = inl (n, find, λ i. record { database = db; reply = is i })
+refused_step : (db : Database) (said : Said) (reply : Reply) (n : ℕ) → Find (checks db said) (Some n) → reply ≡ refusal n → Steps db said (unchanged db reply)
+refused_step db said reply n find is = inl (n, find, λ i. unchanged db (is i))
 
 module _ (db : Database) (q : Query) (t : Table) (named : table_named db q.table ≡ Some t) where
   abbrev more : Table → List Check
   more u = checks_of u.columns q
 
-  pub select_steps : (reply : Reply) → Answers (select_reply q t) q t reply → Steps db (Select q) (record { database = db; reply = reply })
+  pub select_steps : (reply : Reply) → Answers (select_reply q t) q t reply → Steps db (Select q) (unchanged db reply)
   unfolding select_reply
   select_steps reply (inl refuses) = refused_step db (Select q) reply refuses.0 (some_found (table_named db q.table) t more (Some refuses.0) named refuses.1) refuses.2
   select_steps reply (inr allows) = inr (
     some_found (table_named db q.table) t more None named allows.0,
-    of_table (table_named db q.table) t (Selects db q (record { database = db; reply = reply })) named
-        (allows.1.0, allows.1.1, λ i. record { database = db; reply = allows.1.2 i }),
+    of_table (table_named db q.table) t (Selects db q (unchanged db reply)) named
+        (allows.1.0, allows.1.1, λ i. unchanged db (allows.1.2 i)),
   )
 
-  pub explain_steps : db.indexes ≡ [] → (reply : Reply) → Answers (explain_reply t) q t reply → Steps db (Explain q) (record { database = db; reply = reply })
+  pub explain_steps : db.indexes ≡ [] → (reply : Reply) → Answers (explain_reply t) q t reply → Steps db (Explain q) (unchanged db reply)
   unfolding explained_reply
   explain_steps bare reply (inl refuses) = refused_step db (Explain q) reply refuses.0 (some_found (table_named db q.table) t more (Some refuses.0) named refuses.1) refuses.2
   explain_steps bare reply (inr allows) =
       let condition = allows.1.0 in
       let whole : plan_where db t condition ≡ Whole = whole_where db t condition bare in
+      let all : found db t condition ≡ t.rows = whole_found db t condition whole in
       inr (
         some_found (table_named db q.table) t more None named allows.0,
-        of_table (table_named db q.table) t (Explains db q (record { database = db; reply = reply })) named (
+        of_table (table_named db q.table) t (Explains db q (unchanged db reply)) named (
           condition,
-          t.rows,
           allows.1.1,
-          finds_whole (plan_where db t condition) whole,
-          λ i. record { database = db; reply = (allows.1.2 ∙ ap (λ (p : Plan). accepted (explanation (plan_text p) (length t.rows) (length (selected condition t)))) (sym whole)) i },
+          λ i. unchanged db ((allows.1.2 ∙ sym (λ j. accepted (explanation (plan_text (whole j)) (length (all j)) (length (selected condition t))))) i),
         ),
       )
-    where
-      finds_whole : (p : Plan) → p ≡ Whole → Finds t p t.rows
-      finds_whole p whole = subst (λ (p : Plan). Finds t p t.rows) (sym whole) refl
 
 -- The database without the rows of which the condition is true.
 abbrev pub deleted : Database → Table → Option Bound → Database
 deleted db t condition = with_table db t.name (record t { rows = others condition t })
 
 module _ (db : Database) (name : List ℕ) (tree : Option Tree) (t : Table) (named : table_named db name ≡ Some t) where
-  pub delete_refused : (reply : Reply) → Refused (where_checks t.columns tree) reply → Steps db (Delete name tree) (record { database = db; reply = reply })
+  pub delete_refused : (reply : Reply) → Refused (where_checks t.columns tree) reply → Steps db (Delete name tree) (unchanged db reply)
   delete_refused reply refuses = refused_step db (Delete name tree) reply refuses.0 (some_found (table_named db name) t (λ u. where_checks u.columns tree) (Some refuses.0) named refuses.1) refuses.2
 
   pub delete_steps : (condition : Option Bound) (reply : Reply) → Find (where_checks t.columns tree) None → BindsWhere t.columns tree condition → reply ≡ delete_reply t condition
-      → Steps db (Delete name tree) (record { database = deleted db t condition; reply = reply })
+      → Steps db (Delete name tree) (record { database = deleted db t condition; reply = reply; growth = 0 })
   unfolding delete_reply
   delete_steps condition reply find binds is = inr (
     some_found (table_named db name) t (λ u. where_checks u.columns tree) None named find,
-    of_table (table_named db name) t (Deletes db tree (record { database = deleted db t condition; reply = reply })) named
-        (condition, binds, λ i. record { database = deleted db t condition; reply = is i }),
+    of_table (table_named db name) t (Deletes db tree (record { database = deleted db t condition; reply = reply; growth = 0 })) named
+        (condition, binds, λ i. record { database = deleted db t condition; reply = is i; growth = 0 }),
   )
 
 -- What a statement costs that fetches no page, or is accepted.
@@ -114,16 +90,13 @@ faults_differ : (db : Database) (a b : Stepped) (n : ℕ) (bytes : List ℕ) →
 faults_differ db a b n bytes same first second = no_fault n (ap (λ (r : Reply). r.fault) (sym first ∙ ap (λ (s : Stepped). s.reply) same ∙ second))
 
 -- a statement is accepted and refused
-pub not_both : OneStep → (db : Database) (said : Said) (n : ℕ) (new : Database) (bytes : List ℕ) → Find (checks db said) (Some n) → Steps db said (record { database = new; reply = accepted bytes }) → ⊥
+pub not_both : OneStep → (db : Database) (said : Said) (n : ℕ) (new : Database) (bytes : List ℕ) → Find (checks db said) (Some n) → Steps db said (record { database = new; reply = accepted bytes; growth = 0 }) → ⊥
 not_both one db said n new bytes find step =
-    faults_differ db (record { database = db; reply = refusal n }) (record { database = new; reply = accepted bytes }) n bytes
-    (one db said (record { database = db; reply = refusal n }) (record { database = new; reply = accepted bytes }) (inl (n, find, refl)) step) refl refl
-
-for_whole : (db : Database) (t : Table) (condition : Option Bound) (n : ℕ) → db.indexes ≡ [] → FindsFor t (plan_where db t condition) n → n ≡ t.next + 1
-for_whole db t condition n bare finds = subst (λ (p : Plan). FindsFor t p n) (whole_where db t condition bare) finds
+    faults_differ db (unchanged db (refusal n)) (record { database = new; reply = accepted bytes; growth = 0 }) n bytes
+    (one db said (unchanged db (refusal n)) (record { database = new; reply = accepted bytes; growth = 0 }) (inl (n, find, refl)) step) refl refl
 
 query_cost : (db : Database) (tree : Option Tree) (t : Table) (n : ℕ) → db.indexes ≡ [] → QueryCosts db tree n t → n ≡ t.next + 1
-query_cost db tree t n bare costs = for_whole db t costs.0 n bare costs.2
+query_cost db tree t n bare costs = costs.2 ∙ ap (λ (p : Plan). price p t (length (found db t costs.0))) (whole_where db t costs.0 bare)
 
 pub select_costs : OneStep → (db : Database) (q : Query) (t : Table) → table_named db q.table ≡ Some t → db.indexes ≡ [] → Passes (checks_of t.columns q) t.columns q.condition → (n : ℕ) → Costs db (Select q) n
     → n ≡ t.next + 1

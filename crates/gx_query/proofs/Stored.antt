@@ -1,12 +1,12 @@
 -- The rows of a table as they are stored, and as they are looked at.
-use Rattle.std.proofs.Common.{◌≡◌, ◌⊎◌, inl, inr, ⊎_elim, ℕ, ◌+◌, ◌<◌, ◌≤◌, ◌==◌, suc, Bool, true, false, not, List, [], ◌∷◌, ◌++◌, length, filter, map, Option, refl, sym, ◌∙◌, ap, subst, append_assoc, append-nil, arith}
+use Rattle.std.proofs.Common.{◌≡◌, inl, inr, ⊎_elim, ℕ, ◌+◌, ◌<◌, ◌≤◌, ◌==◌, suc, Bool, true, false, not, List, [], ◌∷◌, ◌++◌, length, filter, map, Option, refl, sym, ◌∙◌, ap, subst, append_assoc, append-nil, arith}
 use Rattle.std.proofs.lemmas.Bool.Decides.{eqb_tells}
 use Rattle.std.proofs.lemmas.List.{length-map}
 use Rattle.std.specs.List.{AllZip, AllByRecursion, flat_map}
 use Rattle.gx_pages.specs.declared.row.RowRef.{RowRef}
 use Rattle.gx_pages.specs.Rows.{IsRising}
 use Rattle.gx_pages.proofs.Footprints.{all_weaker}
-use Rattle.gx_heap.specs.Heaps.{Row, AreRows, IsIn, IsRef, refs, without}
+use Rattle.gx_heap.specs.Heaps.{Row, AreRows, IsRef, refs, without}
 use Rattle.gx_value.specs.declared.fields.Column.{Column}
 use Rattle.gx_model.specs.Database as model
 use Rattle.gx_model.specs.Replies.{Reply, accepted, line, row_line}

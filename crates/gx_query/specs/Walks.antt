@@ -1,5 +1,5 @@
 -- Rows as they are looked at one after another, and what is done with those of which a condition is true.
-use Rattle.std.specs.Prelude.{◌≡◌, ◌≢◌, ℕ, ◌+◌, List, [], ◌∷◌, length, filter, Option, None, Some, option_map}
+use Rattle.std.specs.Prelude.{◌≡◌, ◌≢◌, ◌+◌, List, [], ◌∷◌, length, filter, Option, None, Some, option_map}
 use Rattle.gx_pages.specs.declared.error.PageError.{PageError}
 use Rattle.gx_pages.specs.declared.error.PageError.TheVariants.{DiskFault, Broken, PageSpace, Memory}
 use Rattle.gx_value.specs.declared.fields.Column.{Column}

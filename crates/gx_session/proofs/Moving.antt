@@ -1,11 +1,11 @@
 -- How the store of a session moves, call by call.
-use Rattle.std.proofs.Common.{◌≡◌, ◌⊎◌, inl, inr, ℕ, ◌+◌, ◌<◌, ◌≤◌, Bool, true, false, nat_lt, List, Some, None, refl, sym, ◌∙◌, ap, subst, arith}
+use Rattle.std.proofs.Common.{◌≡◌, ◌⊎◌, inl, inr, ℕ, ◌+◌, ◌≤◌, List, refl, sym, ◌∙◌, ap, subst, arith}
 use Rattle.gx_words.specs.Causes.{Said}
 use Rattle.gx_words.specs.Moments.{Moment, Now}
 use Rattle.gx_words.specs.PageMap.{PageMap}
 use Rattle.gx_pages.specs.declared.store.Pages.{Ghosts}
 use Rattle.gx_pages.specs.Footprints.{StaysQuiet}
-use Rattle.gx_pages.specs.Pages.{Beside, HasNoGap}
+use Rattle.gx_pages.specs.Pages.{Beside}
 use Rattle.gx_database.specs.Standing.{StandsFor}
 use Rattle.gx_model.specs.Database.{Database}
 use Rattle.gx_model.specs.Replies.{Reply}

@@ -1,8 +1,7 @@
 -- What pieces are read as.
-use Rattle.std.proofs.Common.{◌≡◌, ℕ, ◌<◌, ◌≤◌, Bool, true, false, cond, nat_lt, nat_le, List, length, Option, Some, None, refl, sym, ◌∙◌, ap, subst, arith}
+use Rattle.std.proofs.Common.{◌≡◌, ℕ, Bool, true, false, cond, nat_lt, nat_le, List, length, Option, Some, None, refl, sym, ◌∙◌, ap, arith}
 use Rattle.std.proofs.lemmas.Bool.Decides.{nat_tests}
 use Rattle.gx_lexer.specs.Feeding.{longest, piece_of}
-use Rattle.gx_lexer.specs.declared.piece.Piece.{Piece}
 use Rattle.gx_lexer.specs.declared.piece.Piece.TheVariants as piece
 use Rattle.gx_model.specs.Turns.{reading_of}
 use Rattle.gx_model.specs.Replies.{Reply}

@@ -1,19 +1,19 @@
 -- The turns of a session, by tasks.
-use Rattle.std.proofs.Common.{◌≡◌, ◌⊎◌, inl, inr, ℕ, ◌+◌, ◌≤◌, Bool, true, false, cond, List, [], ◌∷◌, Option, Some, None, is_some, refl, sym, ◌∙◌, ap, subst, codes, arith}
-use Rattle.std.specs.Prelude.{IsSomeAnd}
+use Rattle.std.proofs.Common.{◌≡◌, inl, inr, ℕ, ◌≤◌, List, [], ◌∷◌, Option, Some, None, refl, sym, ◌∙◌, ap, subst, codes, arith}
 use Rattle.gx_engine.specs.Engines.{kind_of, checkpoint_reply}
 use Rattle.gx_engine.specs.declared.engine.Kind.{Kind}
 use Rattle.gx_engine.specs.declared.engine.Kind.TheVariants.{Idle, Begun, Failed}
-use Rattle.gx_model.specs.Database.{Database, Table, table_named}
+use Rattle.gx_model.specs.Database.{Database}
 use Rattle.gx_model.specs.Replies.{Reply, accepted, line, refusal, syntax_error}
 use Rattle.gx_model.specs.Runs as runs
-use Rattle.gx_model.specs.Steps.{Stepped, Steps, Does, Inserts, Deletes, Selects, Explains, Costs, growth_of}
+use Rattle.gx_model.specs.Steps.{Stepped, Steps, Costs, unchanged}
 use Rattle.gx_model.specs.Turns.{Session, Block, idle, begun, failed, refused_in, seen, with_seen, Turned, Turns, TurnsBy, TurnsSeen, TurnsSaid, TurnCosts, CostsBy, CostsIn, CostsBegun, seen_in, reading_of, refused}
 use Rattle.gx_parse.specs.Answers as answers
 use Rattle.gx_parse.specs.Answers.{says, wrong_at, too_deep}
 use Rattle.gx_parse.specs.Said as said
 use Rattle.gx_parse.specs.Said.{Said}
-use Rattle.gx_step.specs.Doing.{LacksRoom, growth_in}
+use Rattle.gx_model.proofs.Stepping.{no_fault}
+use Rattle.gx_step.specs.Doing.{LacksRoom}
 use Rattle.gx_statement.specs.Work.{IsWork}
 use Rattle.gx_session.specs.Moves.{behind}
 use Rattle.gx_session.specs.Readings.{fault_of, ReadAs}
@@ -32,7 +32,7 @@ as_outside db said.Nothing = refl
 as_outside db said.Begin = refl
 as_outside db said.Commit = refl
 as_outside db said.Rollback = refl
-as_outside db said.Checkpoint = inr (refl, record { database = db; reply = accepted (line (codes "CHECKPOINT")) }, refl, refl)
+as_outside db said.Checkpoint = inr (refl, unchanged db (accepted (line (codes "CHECKPOINT"))), refl, refl)
 as_outside db s = λ turned h. h
 
 as_inside : (db own : Database) (s : Said) → TurnsAs (begun_task s) (record { committed = db; block = begun own }) s
@@ -78,50 +78,13 @@ turn_by session text s kind t read block is not =
     let same : t ≡ task_in (kind_of session.block) s = is ∙ ap (λ (k : Kind). task_in k s) block in
     turn_of session text s _ read (by_task t session s not (subst As (sym same) (turns_as session.committed session.block s)))
 
--- An accepted statement has no fault.
-
-there : {A : Type 0} (o : Option A) (P : A → Type 0) → IsSomeAnd o P → (x : A) × P x
-there None P h = absurd h
-there (Some x) P h = (x, h)
-
-abbrev fault_in : Stepped → Option ℕ
-fault_in d = d.reply.fault
-
-no_fault : (db : Database) (s : Said) (d : Stepped) → Does db s d → d.reply.fault ≡ None
-no_fault db said.Nothing d h = ap fault_in h
-no_fault db (said.CreateTable name columns) d h = ap fault_in h
-no_fault db (said.DropTable name) d h = ap fault_in h
-no_fault db (said.CreateIndex name table method column class parameter) d h = ap fault_in h.2
-no_fault db (said.DropIndex name) d h = ap fault_in h
-no_fault db (said.Insert table listed rows) d h = let k = there (table_named db table) (Inserts db listed rows d) h in ap fault_in k.1.2
-no_fault db (said.Delete table condition) d h = let k = there (table_named db table) (Deletes db condition d) h in ap fault_in k.1.2
-no_fault db (said.Select q) d h = let k = there (table_named db q.table) (Selects db q d) h in ap fault_in k.1.2
-no_fault db (said.Explain q) d h = let k = there (table_named db q.table) (Explains db q d) h in ap fault_in k.1.4
-no_fault db (said.Vacuum table) d h = ap fault_in h
-no_fault db said.Checkpoint d h = ap fault_in h
-no_fault db said.Begin d h = ap fault_in h
-no_fault db said.Commit d h = ap fault_in h
-no_fault db said.Rollback d h = ap fault_in h
-
 -- The turn of a statement that works on the database that the session sees.
 pub record Turn (session : Session) (s : Said) (d : Stepped) : Type 0 where
   pub turned : Turned
   pub turns : TurnsSaid session s turned
   pub reply : turned.reply ≡ d.reply
   pub after : turned.session ≡ behind d.reply.fault session d.database
-  pub growth : d.reply.fault ≡ None → turned.growth ≡ growth_of s
-  pub grows : growth_in s d ≤ turned.growth
-
-at_most_so : (b : Bool) (n : ℕ) → cond b 0 n ≤ n
-at_most_so true n = omega arith
-at_most_so false n = omega arith
-
-none_refused : (fault : Option ℕ) (n m : ℕ) → fault ≡ Some n → cond (is_some fault) 0 m ≤ 0
-none_refused None n m e = cc
-none_refused (Some k) n m e = omega arith
-
-fault_none : (fault : Option ℕ) (n : ℕ) → fault ≡ Some n → fault ≡ None → ⊥
-fault_none fault n e f = cc
+  pub growth : turned.growth ≡ d.growth
 
 behind_fault : (fault : Option ℕ) (n : ℕ) (session : Session) (db : Database) → fault ≡ Some n → refused_in session ≡ behind fault session db
 behind_fault None n session db e = cc
@@ -151,24 +114,22 @@ work_turn session s kind d block work steps = by_cases steps
           turns = hands (refused session (refusal h.0)) (inl (h.0, h.1, refl));
           reply = sym reply;
           after = behind_fault d.reply.fault h.0 session d.database fault;
-          growth = λ none. absurd (fault_none d.reply.fault h.0 fault none);
-          grows = none_refused d.reply.fault h.0 (growth_of s) fault;
+          growth = sym (ap (λ (x : Stepped). x.growth) h.2);
         }
     by_cases (inr h) =
-        let next : Turned = record { session = with_seen session d.database; reply = d.reply; growth = growth_of s } in
+        let next : Turned = record { session = with_seen session d.database; reply = d.reply; growth = d.growth } in
         record {
           turned = next;
           turns = hands next (inr (h.0, d, h.1, refl));
           reply = refl;
           after = behind_none d.reply.fault session d.database (no_fault (seen session) s d h.1);
-          growth = λ none. refl;
-          grows = at_most_so (is_some d.reply.fault) (growth_of s);
+          growth = refl;
         }
 
 -- where there is no room for what a statement may add, there is none in its turn
 pub no_room_turn : (session : Session) (s : Said) (pages : ℕ) (l : LacksRoom pages s (seen session)) (t : Turn session s l.stepped) → runs.LacksRoom pages t.turned
 no_room_turn session s pages l t =
-    let growth = t.growth l.accepted in
+    let growth = t.growth in
     let full = l.full in
     record { accepted = ap (λ (r : Reply). r.fault) t.reply ∙ l.accepted; grows = λ none. l.grows (sym growth ∙ none); full = omega (arith, full, growth) }
 
@@ -357,7 +318,7 @@ vacuum_refused kind s table t is same not none = by kind t (same ∙ ap (λ (x :
 pub record StepOf (session : Session) (s : Said) (turned : Turned) : Type 0 where
   pub stepped : Stepped
   pub steps : Steps (seen session) s stepped
-  pub grows : growth_in s stepped ≤ turned.growth
+  pub grows : stepped.growth ≤ turned.growth
 
 abbrev SeenAs : Task → Session → Said → Type 0
 SeenAs task.Work session said = (turned : Turned) → TurnsSaid session said turned → TurnsSeen session said turned
@@ -392,11 +353,10 @@ handed_as db (begun own) s = handed_inside db own s
 handed_as db failed s = handed_failed db s
 
 step_seen : (session : Session) (s : Said) (turned : Turned) → TurnsSeen session s turned → StepOf session s turned
-step_seen session s turned (inl h) = record { stepped = record { database = seen session; reply = refusal h.0 }; steps = inl (h.0, h.1, refl); grows = omega arith }
+step_seen session s turned (inl h) = record { stepped = unchanged (seen session) (refusal h.0); steps = inl (h.0, h.1, refl); grows = omega arith }
 step_seen session s turned (inr h) =
-    let growth : turned.growth ≡ growth_of s = ap (λ (t : Turned). t.growth) h.3 in
-    let most = at_most_so (is_some h.1.reply.fault) (growth_of s) in
-    record { stepped = h.1; steps = inr (h.0, h.2); grows = omega (arith, growth, most) }
+    let growth : turned.growth ≡ h.1.growth = ap (λ (t : Turned). t.growth) h.3 in
+    record { stepped = h.1; steps = inr (h.0, h.2); grows = omega (arith, growth) }
 
 pub step_of : (session : Session) (text : List ℕ) (s : Said) (kind : Kind) (turned : Turned) → ReadAs text s → kind ≡ kind_of session.block → task_in kind s ≡ task.Work → Turns session text turned
     → StepOf session s turned

@@ -1,12 +1,11 @@
 -- What a statement leaves that works on the database that the session sees.
-use Rattle.std.proofs.Common.{◌≡◌, ◌⊎◌, inl, inr, ℕ, ◌+◌, ◌≤◌, List, Option, Some, None, IfSome, Ok, refl, sym, ◌∙◌, ap, subst, arith}
+use Rattle.std.proofs.Common.{◌≡◌, inl, inr, ℕ, ◌+◌, ◌≤◌, List, Option, Some, None, IfSome, refl, sym, ◌∙◌, ap, subst, arith}
 use Rattle.gx_words.specs.PageMap.{PageMap}
 use Rattle.gx_pages.specs.declared.store.Pages.{Ghosts}
 use Rattle.gx_pages.specs.Footprints.{StaysQuiet}
 use Rattle.gx_database.specs.Standing.{StandsFor}
 use Rattle.gx_model.specs.Database.{Database}
 use Rattle.gx_model.specs.Replies.{Reply, refusal}
-use Rattle.gx_model.specs.Runs as runs
 use Rattle.gx_model.specs.Steps.{Stepped, Steps}
 use Rattle.gx_model.specs.Turns.{Session, Turned, Turns, refused_in, seen}
 use Rattle.gx_parse.specs.Said.{Said, Vacuum}
@@ -54,7 +53,7 @@ module _ {P : Type 0} (g : Ghosts P) (a b c d : P) (kind : Kind) (session : Sess
   executed_so next reply other count committed_count done same moved =
       let t = turn_by reply done in
       let m = moved session done.stepped.database keeps done.stands in
-      let more = t.grows in
+      let more = t.growth in
       let grown = done.grows in
       let kept = quiet.committed_count in
       moving.executed g a c d next session (behind reply.fault session done.stepped.database) text other t.turned (turning.turn_of session text s t.turned read t.turns)

@@ -4,14 +4,14 @@ use Rattle.gx_pages.specs.declared.store.Pages.{Ghosts}
 use Rattle.gx_database.specs.Standing.{StandsFor}
 use Rattle.gx_model.specs.Database.{Database}
 use Rattle.gx_model.specs.Replies.{Reply}
-use Rattle.gx_model.specs.Steps.{Steps}
+use Rattle.gx_model.specs.Steps.{Steps, unchanged}
 use Rattle.gx_parse.specs.Said.{Said}
 use Rattle.gx_step.specs.Doing.{AtMostGrows, Done, Vacuums}
 use Rattle.gx_step.proofs.Same.{done_same}
 
 -- the pages stay, and stand for the same database
-pub done_still : {P : Type 0} (g : Ghosts P) (s : P) (said same : Said) (db : Database) (answer reply : Reply) → said ≡ same → Steps db same (record { database = db; reply = answer }) → answer ≡ reply
-    → StandsFor (g.map s) db → Vacuums same (record { database = db; reply = answer }) (g.map s) → Done g s s said db reply
+pub done_still : {P : Type 0} (g : Ghosts P) (s : P) (said same : Said) (db : Database) (answer reply : Reply) → said ≡ same → Steps db same (unchanged db answer) → answer ≡ reply
+    → StandsFor (g.map s) db → Vacuums same (unchanged db answer) (g.map s) → Done g s s said db reply
 done_still g s said same db answer reply e steps answered stands vacuums =
     subst (λ (x : Said). Done g s s x db reply) (sym e) (done_same g s s same db answer reply stands refl refl steps answered vacuums)
 

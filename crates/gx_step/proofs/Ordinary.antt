@@ -1,10 +1,9 @@
 -- Replies with a space are neither empty nor that to CHECKPOINT.
-use Rattle.std.proofs.Common.{◌≡◌, ◌≢◌, ℕ, ◌==◌, Bool, true, false, ◌||◌, List, [], ◌∷◌, ◌++◌, refl, sym, ◌∙◌, ap, subst}
+use Rattle.std.proofs.Common.{◌≡◌, ◌≢◌, ℕ, ◌==◌, Bool, true, false, ◌||◌, List, [], ◌∷◌, ◌++◌, refl, ◌∙◌, ap, subst}
 use Rattle.std.specs.Prelude.{codes}
 use Rattle.std.proofs.lemmas.List.Folds.{list_any-append}
 use Rattle.std.proofs.lemmas.List.{append_cancel_right}
 use Rattle.std.specs.Fmt.{decimal}
-use Rattle.gx_engine.specs.Engines.{checkpoint_reply}
 use Rattle.gx_model.specs.Replies.{Reply, accepted, line, refusal, syntax_error}
 use Rattle.gx_step.specs.Doing.{IsOrdinary, has_space}
 

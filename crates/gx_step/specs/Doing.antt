@@ -1,5 +1,5 @@
 -- What doing a statement leaves of pages that stand for a database.
-use Rattle.std.specs.Prelude.{◌≡◌, ◌≢◌, ℕ, ◌+◌, ◌^◌, ◌≤◌, ◌==◌, Bool, is_some, if◌then◌else◌, List, [], None}
+use Rattle.std.specs.Prelude.{◌≡◌, ◌≢◌, ℕ, ◌+◌, ◌^◌, ◌≤◌, ◌==◌, Bool, List, [], None}
 use Rattle.std.specs.List.{list_any}
 use Rattle.gx_pages.specs.declared.store.Pages.{Ghosts}
 use Rattle.gx_database.specs.Standing.{StandsFor}
@@ -9,12 +9,8 @@ use Rattle.gx_engine.specs.Vacuumed.{IsVacuumed}
 use Rattle.gx_words.specs.PageMap.{PageMap}
 use Rattle.gx_model.specs.Database.{Database}
 use Rattle.gx_model.specs.Replies.{Reply}
-use Rattle.gx_model.specs.Steps.{Costs, Stepped, Steps, growth_of}
-use Rattle.gx_parse.specs.Said.{Said, Nothing, CreateTable, DropTable, CreateIndex, DropIndex, Insert, Delete, Select, Explain, Vacuum, Checkpoint, Begin, Commit, Rollback}
-
--- how many pages a step may add: none where the statement is refused
-abbrev pub growth_in : Said → Stepped → ℕ
-growth_in said stepped = if is_some stepped.reply.fault then 0 else growth_of said
+use Rattle.gx_model.specs.Steps.{Costs, Stepped, Steps}
+use Rattle.gx_parse.specs.Said.{Said, Vacuum}
 
 -- An accepted VACUUM leaves each page but the last one of the table's heap with a row. Other statements owe nothing here.
 abbrev pub Vacuums : Said → Stepped → PageMap → Type 0
@@ -28,7 +24,7 @@ pub record Done {P : Type 0} (g : Ghosts P) (old new : P) (said : Said) (db : Da
   pub steps : Steps db said stepped
   pub answered : stepped.reply ≡ reply
   pub stands : StandsFor (g.map new) stepped.database
-  pub grows : g.count new ≤ g.count old + growth_in said stepped
+  pub grows : g.count new ≤ g.count old + stepped.growth
   pub vacuumed : Vacuums said stepped (g.map new)
 
 -- The statement is accepted, may add pages, and there is no room for as many.
@@ -36,8 +32,8 @@ pub record LacksRoom (count : ℕ) (said : Said) (db : Database) : Type 0 where
   pub stepped : Stepped
   pub steps : Steps db said stepped
   pub accepted : stepped.reply.fault ≡ None
-  pub grows : growth_of said ≢ 0
-  pub full : 2 ^ 50 ≤ count + growth_of said
+  pub grows : stepped.growth ≢ 0
+  pub full : 2 ^ 50 ≤ count + stepped.growth
 
 -- What a statement promises of pages, whatever database they stand for: it is done and answered so,
 abbrev pub DoneFor : {P : Type 0} → Ghosts P → P → P → Said → code.Reply → Type 0
@@ -53,7 +49,7 @@ LackRoomFor g pages said = g.tells → (db : Database) → StandsFor (g.map page
 
 -- it adds no more pages than its step may, whether it ends with an error or not,
 abbrev pub AtMostGrows : {P : Type 0} → Ghosts P → P → P → Said → Type 0
-AtMostGrows g old new said = g.tells → (db : Database) → StandsFor (g.map old) db → (stepped : Stepped) → Steps db said stepped → g.count new ≤ g.count old + growth_in said stepped
+AtMostGrows g old new said = g.tells → (db : Database) → StandsFor (g.map old) db → (stepped : Stepped) → Steps db said stepped → g.count new ≤ g.count old + stepped.growth
 
 -- and there are no more ticks than it may cost.
 abbrev pub AtMostCosts : {P : Type 0} → Ghosts P → P → Said → ℕ → ℕ → Type 0

@@ -1,7 +1,7 @@
-use Rattle.std.proofs.Common.{◌≡◌, ◌+◌, ◌-◌, ◌^◌, ◌≤◌, ◌<◌, ℕ, List, [], ◌++◌, length, take, drop, refl, sym, ◌∙◌, ap, subst, append_assoc, append-nil, arith}
+use Rattle.std.proofs.Common.{◌≡◌, ◌+◌, ◌-◌, ◌≤◌, ◌<◌, ℕ, List, [], ◌++◌, length, take, drop, sym, ◌∙◌, ap, subst, append_assoc, append-nil, arith}
 use Rattle.std.proofs.lemmas.List.{length-drop, length-take-le}
 use Rattle.std.proofs.lemmas.Result.{err_from_is_err_and}
-use Rattle.gx_pages.proofs.Footprints.{cause_weaker, keeps_join, keeps_none, quiet_join, quiet_none}
+use Rattle.gx_pages.proofs.Footprints.{cause_weaker, keeps_join, quiet_join}
 use Rattle.gx_heap.specs.Heaps.{HoldsHeap, Row}
 use Rattle.gx_change.specs.Appended.{AreNumbered}
 use Rattle.gx_change.proofs.Filling.{numbered_join, take_split}

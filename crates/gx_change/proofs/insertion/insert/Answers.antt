@@ -1,4 +1,4 @@
-use Rattle.std.proofs.Common.{◌≡◌, ◌+◌, ◌^◌, ◌≤◌, ◌<◌, ℕ, List, [], ◌∷◌, ◌++◌, length, map, codes, None, Some, refl, sym, ◌∙◌, ap, subst, arith}
+use Rattle.std.proofs.Common.{◌+◌, ◌≤◌, ℕ, List, [], ◌∷◌, ◌++◌, length, map, codes, Some, refl, sym, ◌∙◌, ap, subst, arith}
 use Rattle.std.specs.Option.{option_copied}
 use Rattle.std.specs.Fmt.{decimal}
 use Rattle.std.specs.List.{AllByRecursion}
@@ -11,7 +11,7 @@ use Rattle.gx_parse.specs.declared.statement.Given.{Given}
 use Rattle.gx_parse.specs.Said.{Insert}
 use Rattle.gx_parse.specs.Sound.{RowsHaveLiterals}
 use Rattle.gx_model.specs.Checks.{Find}
-use Rattle.gx_model.specs.Database.{AreDistinct, Database, Table}
+use Rattle.gx_model.specs.Database.{Table}
 use Rattle.gx_model.specs.Faults.{insert_checks}
 use Rattle.gx_model.specs.Refusals.{Refuses}
 use Rattle.gx_model.specs.declared.refusal.Refusal.{Refusal}
@@ -19,7 +19,6 @@ use Rattle.gx_model.specs.Replies.{accepted, line}
 use Rattle.gx_database.specs.Heaps.{Stored}
 use Rattle.gx_change.specs.Appended.{AreNumbered}
 use Rattle.gx_change.proofs.Effects.{checks_at, insert_done, insert_grows, insert_lacks_room, missing, next_of, read_at, rows_are_few}
-use Rattle.gx_step.proofs.Loading.{IsTold}
 use Rattle.gx_change.proofs.Frame.{catalog_there, has_table, heap_changed, table_heap}
 use Rattle.gx_step.proofs.Names.{to_model}
 use Rattle.gx_change.proofs.Names.{all_among}

@@ -1,4 +1,4 @@
-use Rattle.std.proofs.Common.{◌≡◌, inl, inr, ℕ, ◌+◌, ◌^◌, ◌≤◌, ◌<◌, ◌||◌, nat_le, nat_lt, Bool, true, false, List, [], ◌∷◌, ◌++◌, length, codes, None, Some, refl, sym, ◌∙◌, ap, subst, arith}
+use Rattle.std.proofs.Common.{◌≡◌, inl, inr, ℕ, ◌||◌, nat_le, nat_lt, true, false, List, [], ◌∷◌, ◌++◌, length, codes, None, Some, refl, sym, ◌∙◌, ap, subst, arith}
 use Rattle.std.specs.Prelude.{is_some}
 use Rattle.std.specs.List.{filter_map}
 use Rattle.std.proofs.lemmas.Result.{err_from_is_err_and}
@@ -8,7 +8,7 @@ use Rattle.gx_catalog.specs.Validity.{table_named as info_named}
 use Rattle.gx_parse.specs.declared.statement.ColumnWord.{ColumnWord}
 use Rattle.gx_parse.specs.Said.{CreateTable}
 use Rattle.gx_model.specs.Checks.{Find}
-use Rattle.gx_model.specs.Database.{Database, table_named}
+use Rattle.gx_model.specs.Database.{table_named}
 use Rattle.gx_model.specs.Faults.{new_column_checks}
 use Rattle.gx_model.specs.Refusals.{Refuses}
 use Rattle.gx_model.specs.declared.refusal.Refusal.{Refusal}
@@ -16,7 +16,6 @@ use Rattle.gx_model.specs.Replies.{line}
 use Rattle.gx_model.specs.Steps.{column_of, new_table}
 use Rattle.gx_database.specs.Heaps.{Stored}
 use Rattle.gx_change.proofs.Effects.{as_many, create_done, create_grows, create_lacks_room, present}
-use Rattle.gx_step.proofs.Loading.{IsTold}
 use Rattle.gx_change.proofs.Frame.{catalog_there, heap_added}
 use Rattle.gx_change.proofs.Names.{made_info, made_table, room_left}
 use Rattle.gx_change.proofs.Refused.{all_done, all_refused}

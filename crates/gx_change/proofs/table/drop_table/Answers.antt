@@ -1,18 +1,13 @@
-use Rattle.std.proofs.Common.{◌≡◌, ◌+◌, ◌*◌, ◌≤◌, ◌<◌, List, [], ◌∷◌, ◌++◌, codes, None, Some, refl, sym, ◌∙◌, ap, subst, arith}
+use Rattle.std.proofs.Common.{List, [], ◌++◌, codes, sym, ◌∙◌, subst, arith}
 use Rattle.std.proofs.lemmas.Result.{err_from_is_err_and}
 use Rattle.gx_pages.proofs.Footprints.{cause_weaker}
 use Rattle.gx_catalog.specs.declared.info.IndexInfo.{IndexInfo}
-use Rattle.gx_catalog.specs.Validity.{HasNoIndex, IsHeap, IsTable}
+use Rattle.gx_catalog.specs.Validity.{HasNoIndex}
 use Rattle.gx_parse.specs.Said.{DropTable}
-use Rattle.gx_model.specs.Checks.{Check}
-use Rattle.gx_model.specs.Database.{Database, Table}
+use Rattle.gx_model.specs.Database.{Table}
 use Rattle.gx_model.specs.Replies.{line}
-use Rattle.gx_database.specs.Heaps.{Stored}
-use Rattle.gx_database.specs.Standing.{StandsFor}
 use Rattle.gx_change.proofs.Effects.{drop_cost, drop_done, missing, next_of}
-use Rattle.gx_step.proofs.Loading.{IsTold}
-use Rattle.gx_change.proofs.Frame.{HasTable, catalog_there, has_table, heap_changed, heap_gone, table_heap}
-use Rattle.gx_change.proofs.Names.{all_among}
+use Rattle.gx_change.proofs.Frame.{catalog_there, has_table, heap_gone, table_heap}
 use Rattle.gx_change.proofs.Refused.{all_done, all_refused}
 use Rattle.gx_change.proofs.table.drop_table.Goals as goal
 

@@ -1,5 +1,4 @@
-use Rattle.std.proofs.Common.{◌≡◌, ℕ, Bool, ◌&&◌, List, Option, option_map, sym, ◌∙◌, ap, subst}
-use Rattle.std.specs.List.{position}
+use Rattle.std.proofs.Common.{ℕ, Bool, ◌&&◌, Option, option_map, sym, subst}
 use Rattle.gx_catalog.specs.declared.info.IndexInfo.{IndexInfo}
 use Rattle.gx_opr.specs.declared.operand.Operand.{Operand}
 use Rattle.gx_value.specs.Classes.{supports}

@@ -1,6 +1,4 @@
-use Rattle.std.proofs.Common.{◌≡◌, ℕ, Bool, List, Option, sym, ◌∙◌, ap, subst}
-use Rattle.std.specs.List.{position}
-use Rattle.gx_catalog.specs.declared.info.IndexInfo.{IndexInfo}
+use Rattle.std.proofs.Common.{Bool, sym, subst}
 use Rattle.gx_model.specs.Truth as truth
 use Rattle.gx_plan.specs.Indexes.{is_on}
 use Rattle.gx_plan.specs.Plans.{at_place, IsChosen}

@@ -1,4 +1,4 @@
-use Rattle.std.proofs.Common.{◌≡◌, map, take}
+use Rattle.std.proofs.Common.{◌≡◌, take}
 use Rattle.gx_plan.specs.Bounds.{kinds_of}
 use Rattle.gx_query.proofs.filter.types_of.Given as goal
 

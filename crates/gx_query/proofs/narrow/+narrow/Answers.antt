@@ -1,4 +1,3 @@
-use Rattle.std.specs.Prelude.{IfOk}
 use Rattle.gx_query.proofs.Narrowing.{narrows_more, narrows_never, ok_weaker}
 use Rattle.gx_query.proofs.narrow.+narrow.Goals as goal
 

@@ -1,4 +1,4 @@
-use Rattle.std.proofs.Common.{[], ◌∙◌, arith}
+use Rattle.std.proofs.Common.{◌∙◌, arith}
 use Rattle.std.proofs.lemmas.Result.{err_from_is_err_and}
 use Rattle.gx_pages.proofs.Footprints.{cause_weaker, quiet_join}
 use Rattle.gx_parse.specs.Said.{query_of}

@@ -1,12 +1,11 @@
-use Rattle.std.proofs.Common.{◌≡◌, ℕ, List, Option, refl, sym, ◌∙◌, ap, subst, arith}
-use Rattle.gx_pages.specs.declared.error.PageError.{PageError}
+use Rattle.std.proofs.Common.{◌≡◌, ℕ, List, Option, sym, ◌∙◌, ap, subst}
 use Rattle.gx_value.specs.declared.types.ColumnType.{ColumnType}
 use Rattle.gx_value.specs.declared.value.Value.{Value}
 use Rattle.gx_value.specs.Rows.{SpellsRow}
 use Rattle.gx_value.specs.Values.{Datum, row_of}
 use Rattle.gx_model.specs.Truth.{selects}
 use Rattle.gx_plan.specs.Bounds.{kinds_of}
-use Rattle.gx_query.specs.Walks.{Breaks, condition_of}
+use Rattle.gx_query.specs.Walks.{condition_of}
 use Rattle.gx_query.specs.Wanted.{narrowed}
 use Rattle.gx_query.proofs.Narrowing.{breaks_at, no_and_yes, row_narrowed, same_selected}
 use Rattle.gx_query.proofs.walk.is_selected.Goals as goal

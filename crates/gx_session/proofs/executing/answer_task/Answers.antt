@@ -1,4 +1,3 @@
-use Rattle.std.proofs.Common.{◌≡◌, ℕ}
 use Rattle.std.proofs.lemmas.Result.{err_from_is_err_and}
 use Rattle.gx_pages.specs.declared.error.PageError.TheVariants.{DiskFault, Memory}
 use Rattle.gx_session.specs.Tasks.{after_of}

@@ -1,4 +1,4 @@
-use Rattle.std.proofs.Common.{◌≡◌, inl, inr, ℕ, ◌+◌, List, refl, sym, ◌∙◌, ap, subst, arith}
+use Rattle.std.proofs.Common.{inl, inr, refl, sym, ◌∙◌, ap, arith}
 use Rattle.gx_model.specs.Replies.{Reply}
 use Rattle.gx_model.specs.Turns.{Session, Turned}
 use Rattle.gx_parse.specs.Said.{said_of}

@@ -1,4 +1,4 @@
-use Rattle.std.proofs.Common.{◌≡◌, ℕ, List, Option, Some, refl, sym, ◌∙◌, ap, subst}
+use Rattle.std.proofs.Common.{Option, sym, ◌∙◌, ap, subst}
 use Rattle.gx_parse.specs.Answers.{Answer}
 use Rattle.gx_session.specs.Readings.{IsReading, fault_of}
 use Rattle.gx_session.proofs.Pieces as pieces

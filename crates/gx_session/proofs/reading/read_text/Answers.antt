@@ -1,5 +1,5 @@
-use Rattle.std.proofs.Common.{◌≡◌, ℕ, List, Option, Some, refl, sym, ◌∙◌, ap, subst}
-use Rattle.gx_parse.specs.Answers.{Answer, wrong_at, too_deep, answer_of}
+use Rattle.std.proofs.Common.{Some, sym, ap, subst}
+use Rattle.gx_parse.specs.Answers.{Answer, answer_of}
 use Rattle.gx_session.specs.Readings.{IsReading, fault_of}
 use Rattle.gx_session.proofs.Results as results
 use Rattle.gx_session.proofs.reading.read_text.Goals as goal

@@ -1,7 +1,6 @@
 use Rattle.std.proofs.Common.{ℕ, Option, sym, ◌∙◌, subst}
 use Rattle.gx_pages.specs.declared.error.PageError.TheVariants.{DiskFault, Memory}
 use Rattle.gx_session.specs.Moves.{Moved, MayHaveMoved, behind}
-use Rattle.gx_session.proofs.Moving as moving
 use Rattle.gx_session.proofs.Results as results
 use Rattle.gx_session.proofs.working.settle.Goals as goal
 

@@ -1,5 +1,3 @@
-use Rattle.std.proofs.Common.{◌≡◌, ℕ, subst}
-use Rattle.gx_pages.specs.declared.error.PageError.{PageError}
 use Rattle.gx_session.proofs.working.try_step.Goals as goal
 
 pub returns-in-Err-PageSpace-clause-full : goal.returns-in-Err-PageSpace-clause-full

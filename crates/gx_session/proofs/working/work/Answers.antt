@@ -1,15 +1,13 @@
-use Rattle.std.proofs.Common.{◌≡◌, ◌⊎◌, inl, inr, ℕ, ◌+◌, ◌≤◌, Option, Some, None, Ok, refl, sym, ◌∙◌, ap, subst, arith}
+use Rattle.std.proofs.Common.{inl, inr, Option, sym, ◌∙◌, ap, arith}
 use Rattle.std.proofs.lemmas.Result.{err_from_is_err_and}
-use Rattle.gx_words.specs.PageMap.{PageMap}
 use Rattle.gx_pages.proofs.Footprints.{cause_weaker}
 use Rattle.gx_database.specs.Standing.{StandsFor}
 use Rattle.gx_model.specs.Database.{Database}
 use Rattle.gx_model.specs.Replies.{Reply}
-use Rattle.gx_model.specs.Turns.{Session, seen, refused_in}
+use Rattle.gx_model.specs.Turns.{Session, seen}
 use Rattle.gx_parse.specs.Said.{said_of}
 use Rattle.gx_engine.specs.declared.reply.Reply.{Reply as Answered}
-use Rattle.gx_engine.specs.Engines.{IsIn, HasAtMost, Executed, Unmade, reply_of}
-use Rattle.gx_session.specs.Moves.{Keeps, Moved, MayHaveMoved, behind}
+use Rattle.gx_engine.specs.Engines.{IsIn, reply_of}
 use Rattle.gx_session.proofs.Moving as moving
 use Rattle.gx_session.proofs.Results as results
 use Rattle.gx_session.proofs.Turning as turning

@@ -1,6 +1,5 @@
-use Rattle.std.proofs.Common.{◌≡◌, ◌++◌, sym, ap, subst, List, ℕ}
-use Rattle.std.specs.Fmt.{decimal}
-use Rattle.gx_model.specs.Replies.{Reply, accepted, line}
+use Rattle.std.proofs.Common.{sym, subst, List, ℕ}
+use Rattle.gx_model.specs.Replies.{accepted}
 use Rattle.gx_step.specs.Doing.{IsOrdinary}
 use Rattle.gx_step.proofs.Ordinary as ordinary
 use Rattle.gx_step.proofs.reply.counted.Goals as goal

@@ -1,4 +1,4 @@
-use Rattle.std.proofs.Common.{◌≡◌, ◌++◌, ℕ, List, Result, Ok, Err, OnOk, refl, ◌∙◌, ap}
+use Rattle.std.proofs.Common.{◌++◌, ℕ, List, Result, Ok, Err, OnOk, refl, ◌∙◌, ap}
 use Rattle.gx_model.specs.Replies.{row_line}
 use Rattle.gx_target.specs.Places.{columns_at}
 use Rattle.gx_value.specs.Values.{row_of}
