@@ -94,7 +94,7 @@ pub trait Desk {
         ensures disk { disk_faults self.new ≡ disk_faults self.old }
         ensures cause { FailsWith (said self.old).faults (said self.new).faults result };
 
-    /// Makes a checkpoint where one is due or many pages wait, and no block is open.
+    /// Makes a checkpoint where one is due or many pages wait; in a block it does nothing.
     fn settle(&mut self, due: bool) -> Result<(), Failed>
         requires { ready self.old }
         ensures at { OnOk result (tells → (from : State) → is_at self.old from → is_at self.new from) }
@@ -102,6 +102,7 @@ pub trait Desk {
             × Between moment may_have_left_since self.old self.new (OneOf from.session.committed from.session.committed (said self.old).bytes) }
         ensures emptied { OnOk result (tells → due ≡ true → idle self.old → emptied self.new) }
         ensures kept { OnOk result (tells → emptied self.old → emptied self.new) }
+        ensures in_block { (idle self.old → ⊥) → self.new ≡ self.old }
         ensures ready { OnOk result (ready self.new) }
         ensures said { said self.new ≡ said self.old }
         ensures follows { follows self.old self.new }
