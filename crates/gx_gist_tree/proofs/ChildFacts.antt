@@ -1,8 +1,7 @@
 -- The page below an item, as it is fetched, and a page above level 0 before an insert.
-use Rattle.std.proofs.Common.{◌≡◌, ◌≢◌, ◌⊎◌, inl, inr, ⊎_elim, ℕ, zero, suc, ◌+◌, ◌<◌, ◌≤◌, List, [], ◌∷◌, ◌++◌, length, map, Option, Some, None, All, refl, sym, ◌∙◌, ap, subst, arith}
+use Rattle.std.proofs.Common.{◌≡◌, ⊎_elim, ℕ, zero, suc, ◌<◌, List, [], ◌∷◌, ◌++◌, length, map, Some, All, refl, sym, ◌∙◌, ap, subst, arith}
 use Rattle.std.specs.List.{AllByRecursion}
 use Rattle.std.proofs.lemmas.List.Elements.{All-map, All-weaker}
-use Rattle.gx_words.specs.PageMap.{PageMap}
 use Rattle.gx_pages.specs.declared.row.RowRef.{RowRef}
 use Rattle.gx_pages.specs.declared.store.Pages.{Ghosts as PageGhosts}
 use Rattle.gx_pages.proofs.Footprints as feet
@@ -11,7 +10,7 @@ use Rattle.gx_gist.specs.declared.class.GistClass.{Ghosts}
 use Rattle.gx_gist_tree.specs.declared.change.Change.{Change}
 use Rattle.gx_gist_tree.specs.declared.change.Change.TheVariants.{Within, Split}
 use Rattle.gx_gist_tree.specs.declared.change.Arranged.{Arranged}
-use Rattle.gx_gist_tree.specs.declared.change.Arranged.TheVariants.{Same, Here, Halves}
+use Rattle.gx_gist_tree.specs.declared.change.Arranged.TheVariants.{Same}
 use Rattle.gx_gist_tree.specs.Trees.{Node, page_of, pages_of}
 use Rattle.gx_gist_tree.specs.OnPages.{IsRead, IsSound, inner_item, slots_of}
 use Rattle.gx_gist_tree.specs.Insertion.{AreKeys, IsInserted, IsLaid, IsReady, IsReplaced, head_len, items_but, inner_items, pages_now}

@@ -1,11 +1,10 @@
 -- Items of a page that were laid out anew, as rows with keys, or as keys with pages.
-use Rattle.std.proofs.Common.{◌≡◌, ◌≢◌, ◌⊎◌, inl, inr, ⊎_elim, ℕ, zero, suc, ◌+◌, ◌<◌, ◌≤◌, List, [], ◌∷◌, ◌++◌, length, map, take, drop, slice_set, Option, Some, None, All, refl, sym, ◌∙◌, ap, subst, append_assoc, append-nil, length-append, arith}
-use Rattle.std.specs.List.{filter_map, flat_map}
+use Rattle.std.proofs.Common.{◌≡◌, ℕ, zero, suc, ◌+◌, ◌<◌, ◌≤◌, List, [], ◌∷◌, ◌++◌, length, map, take, drop, Option, Some, None, All, refl, sym, ◌∙◌, ap, subst, arith}
+use Rattle.std.specs.List.{filter_map}
 use Rattle.std.specs.Option.{option_map}
 use Rattle.std.specs.List.Sorted.{IsPermutation}
 use Rattle.std.proofs.lemmas.List.{map-append}
-use Rattle.std.proofs.lemmas.List.Elements.{All-head, All-tail, All-nil, All-cons, filter_map-append}
-use Rattle.std.proofs.lemmas.List.Sorted.{IsPermutation-trans}
+use Rattle.std.proofs.lemmas.List.Elements.{All-head, All-tail, All-nil, All-cons}
 use Rattle.gx_slot.specs.Slots.{Slots}
 use Rattle.gx_gist.specs.Places.{IsRearrangement}
 use Rattle.gx_gist_tree.specs.Insertion.{AreKeys, AreHalves, IsUnion, head_len, items_but, items_in, page_with, picked}

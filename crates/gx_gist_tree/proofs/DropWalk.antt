@@ -1,17 +1,14 @@
 -- A walk that gives the pages of a tree back.
-use Rattle.std.proofs.Common.{◌≡◌, ◌≢◌, ℕ, zero, suc, ◌+◌, ◌<◌, ◌≤◌, List, [], ◌∷◌, ◌++◌, take, refl, sym, ◌∙◌, ap, subst, append_assoc, append-nil, arith}
+use Rattle.std.proofs.Common.{◌≡◌, ◌≢◌, ℕ, suc, ◌+◌, List, [], ◌∷◌, ◌++◌, take, sym, ◌∙◌, ap, subst, append_assoc, append-nil, arith}
 use Rattle.std.specs.List.{AllByRecursion, flat_map}
 use Rattle.std.specs.List.Sorted.{IsPermutation}
-use Rattle.std.proofs.lemmas.List.Sorted.{IsPermutation-refl, IsPermutation-trans, IsPermutation-cons, IsPermutation-append_left, IsPermutation-append_right, IsPermutation-append_comm}
+use Rattle.std.proofs.lemmas.List.Sorted.{IsPermutation-trans, IsPermutation-cons, IsPermutation-append_left, IsPermutation-append_right, IsPermutation-append_comm}
 use Rattle.gx_words.specs.PageMap.{PageMap}
 use Rattle.gx_pages.specs.declared.store.Pages.{Ghosts as PageGhosts}
 use Rattle.gx_pages.specs.Frees.{IsApart, IsFreeList, KeepsHeader, Given}
-use Rattle.gx_pages.specs.Footprints.{IsOutside, ChangesOnly, KeepsPages, grown}
+use Rattle.gx_pages.specs.Footprints.{IsOutside, ChangesOnly, KeepsPages}
 use Rattle.gx_pages.proofs.Footprints as feet
-use Rattle.gx_gist.specs.declared.class.GistClass.{Ghosts}
-use Rattle.gx_slot.specs.Slots.{Slots}
-use Rattle.gx_gist_tree.specs.Trees.{Node, page_of, pages_of}
-use Rattle.gx_gist_tree.specs.OnPages.{IsRead}
+use Rattle.gx_gist_tree.specs.Trees.{Node, pages_of}
 use Rattle.gx_gist_tree.proofs.Places.{At, flat_more, flat_split}
 use Rattle.gx_gist_tree.proofs.VisitFacts.{below_pages}
 

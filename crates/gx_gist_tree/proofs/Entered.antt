@@ -1,13 +1,13 @@
 -- The rows after an insert, and the keys that it keeps.
-use Rattle.std.proofs.Common.{refl, sym, ap, subst, ◌∙◌, ◌≡◌, ◌≢◌, ◌⊎◌, inl, inr, ⊎_elim, ℕ, zero, suc, ◌<◌, ◌+◌, List, [], ◌∷◌, ◌++◌, length, map, All, get_or, append_assoc, append-nil, arith}
+use Rattle.std.proofs.Common.{refl, sym, ap, subst, ◌∙◌, ◌≡◌, inl, inr, ⊎_elim, ℕ, zero, suc, List, [], ◌∷◌, ◌++◌, map, All, append_assoc, append-nil, arith}
 use Rattle.std.specs.Prelude.{Contains}
-use Rattle.std.specs.List.{flat_map, filter_map}
+use Rattle.std.specs.List.{flat_map}
 use Rattle.std.specs.List.Sorted.{IsPermutation}
 use Rattle.std.proofs.lemmas.Grind.{flat_map-append}
-use Rattle.std.proofs.lemmas.List.Elements.{All-head, All-tail, All-nil, All-cons, All-append, All-weaker, Contains-append_left, Contains-append_right}
-use Rattle.std.proofs.lemmas.List.Sorted.{IsPermutation-sym, IsPermutation-trans, IsPermutation-middle, IsPermutation-map, IsPermutation-append_left, IsPermutation-append_right, All-permutation, Contains-permutation}
+use Rattle.std.proofs.lemmas.List.Elements.{All-nil, All-cons, All-weaker, Contains-append_left, Contains-append_right}
+use Rattle.std.proofs.lemmas.List.Sorted.{IsPermutation-sym, IsPermutation-trans, IsPermutation-middle, IsPermutation-map, IsPermutation-append_left, IsPermutation-append_right, Contains-permutation}
 use Rattle.gx_pages.specs.declared.row.RowRef.{RowRef}
-use Rattle.gx_gist_tree.specs.Trees.{Node, Entry, Outcome, entries, page_of, items_above, now_on, on_pages, Replaces, Inserts, IsKept, AreKept, IsUnited}
+use Rattle.gx_gist_tree.specs.Trees.{Node, Entry, Outcome, entries, page_of, items_above, now_on, on_pages, Replaces, Inserts, IsKept, AreKept}
 use Rattle.gx_gist_tree.specs.Insertion.{OnEach}
 use Rattle.gx_gist_tree.proofs.Permuted.{flat_moved}
 

@@ -1,11 +1,9 @@
 -- What a walk may rely on where the pages hold a tree.
-use Rattle.std.proofs.Common.{◌≡◌, ◌≢◌, ◌⊎◌, inl, inr, ⊎_elim, ℕ, zero, suc, ◌+◌, ◌-◌, ◌*◌, ◌^◌, ◌<◌, ◌≤◌, Bool, true, false, List, [], ◌∷◌, ◌++◌, length, map, filter, Option, Some, None, Err, All, if◌then◌else◌, refl, sym, ◌∙◌, ap, subst, length-append, lit<, lit≤, arith}
+use Rattle.std.proofs.Common.{◌≡◌, ◌≢◌, ℕ, zero, suc, ◌+◌, ◌*◌, ◌^◌, ◌<◌, ◌≤◌, Bool, true, false, List, [], ◌∷◌, ◌++◌, length, map, filter, Option, Some, None, Err, All, if◌then◌else◌, refl, sym, ◌∙◌, ap, subst, length-append, lit<, arith}
 use Rattle.std.specs.Prelude.{IfSome}
 use Rattle.std.specs.List.{AllByRecursion, flat_map, filter_map}
-use Rattle.std.specs.List.Sorted.{IsPermutation}
-use Rattle.std.proofs.lemmas.List.{map-append}
 use Rattle.std.proofs.lemmas.List.Sorted.{IsPermutation-map}
-use Rattle.std.proofs.lemmas.List.Elements.{All-head, All-tail, All-nil, All-cons, All-weaker}
+use Rattle.std.proofs.lemmas.List.Elements.{All-head, All-tail, All-nil, All-cons}
 use Rattle.std.proofs.Math.Nat.{pow-suc, pow-le-pow_right, mul-suc, suc-mul, mul-le-mul_right}
 use Rattle.gx_words.specs.PageMap.{PageMap}
 use Rattle.gx_pages.specs.declared.row.RowRef.{RowRef}
@@ -20,7 +18,7 @@ use Rattle.gx_gist.specs.declared.class.GistClass.{Ghosts}
 use Rattle.gx_slot.specs.Slots.{Slots, Fits, IsSlotPage, spelling}
 use Rattle.gx_chain.specs.Chains.{IsSound as IsUnbroken}
 use Rattle.gx_gist_tree.specs.Trees.{Node, Entry, entries, page_of, pages_of, IsTree, IsLeafKey, HasTwoItems}
-use Rattle.gx_gist_tree.specs.OnPages.{Whole, Stands, Holds, IsSound, IsRead, FitsFields, AreFresh, entries_of, footprint, slots_of}
+use Rattle.gx_gist_tree.specs.OnPages.{Whole, Stands, Holds, IsSound, IsRead, FitsFields, AreFresh, slots_of}
 use Rattle.gx_gist_tree.proofs.VisitFacts.{is_on, flat_kind, flat_level}
 
 all_front : {X : Type 0} (P : X → Type 0) (xs ys : List X) → All P (xs ++ ys) → All P xs

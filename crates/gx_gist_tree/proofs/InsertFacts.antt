@@ -1,8 +1,7 @@
 -- What an insert keeps.
-use Rattle.std.proofs.Common.{refl, sym, ap, subst, ◌∙◌, ◌≡◌, ◌≢◌, ◌⊎◌, inl, inr, ℕ, zero, suc, ◌<◌, ◌+◌, List, [], ◌∷◌, ◌++◌, length, map, All, Contains, get_or, arith}
+use Rattle.std.proofs.Common.{refl, sym, subst, inl, inr, ℕ, zero, suc, List, [], ◌∷◌, ◌++◌, map, All, Contains, get_or, arith}
 use Rattle.std.specs.List.{flat_map, filter_map}
-use Rattle.std.specs.List.Sorted.{IsPermutation}
-use Rattle.std.proofs.lemmas.List.Elements.{All-head, All-tail, All-nil, All-cons, All-append, All-weaker, All-map, All-contains, All-same}
+use Rattle.std.proofs.lemmas.List.Elements.{All-head, All-tail, All-nil, All-cons, All-append, All-weaker, All-map}
 use Rattle.std.proofs.lemmas.List.Sorted.{All-permutation}
 use Rattle.gx_pages.specs.declared.row.RowRef.{RowRef}
 use Rattle.gx_gist_tree.specs.Trees.{Node, Entry, Outcome, entries, keys_on, IsTree, IsAbove, IsLeafKey, united_from, IsUnited, now_on, on_pages, Replaces, Inserts, AreTrees}

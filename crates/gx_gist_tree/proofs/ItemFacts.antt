@@ -1,16 +1,14 @@
 -- The items of pages, read from their bytes.
-use Rattle.std.proofs.Common.{◌≡◌, ◌≢◌, ℕ, zero, suc, ◌+◌, ◌^◌, ◌<◌, ◌≤◌, true, false, List, [], ◌∷◌, ◌++◌, length, map, take, drop, filter, get_or, Option, Some, None, All, if◌then◌else◌, refl, sym, ◌∙◌, ap, subst, append-nil, append_assoc, arith}
+use Rattle.std.proofs.Common.{◌≡◌, ℕ, ◌+◌, ◌^◌, ◌<◌, ◌≤◌, true, false, List, [], ◌∷◌, ◌++◌, length, map, take, drop, filter, Option, Some, None, if◌then◌else◌, refl, sym, ◌∙◌, ap, append_assoc, arith}
 use Rattle.std.specs.Prelude.{MatchOption, IfSome}
 use Rattle.std.specs.Option.{option_map}
 use Rattle.std.specs.List.{filter_map}
-use Rattle.std.proofs.lemmas.List.{take_more, map-append}
-use Rattle.std.proofs.lemmas.List.Elements.{filter-append}
 use Rattle.gx_bytes.specs.Fields.{le16, le64, le16-same, le64-same}
 use Rattle.gx_pages.specs.declared.row.RowRef.{RowRef}
-use Rattle.gx_gist.specs.Spelled.{SpellsNone, IsSpelled, IsAnswerOf}
+use Rattle.gx_gist.specs.Spelled.{SpellsNone, IsAnswerOf}
 use Rattle.gx_gist.specs.declared.test.Test.{Test}
 use Rattle.gx_slot.specs.Slots.{item_at}
-use Rattle.gx_gist_tree.specs.Trees.{Entry, Node, passes}
+use Rattle.gx_gist_tree.specs.Trees.{Entry, passes}
 use Rattle.gx_gist_tree.specs.OnPages.{FitsFields, leaf_item, inner_item}
 use Rattle.gx_gist_tree.proofs.Places.{At}
 

@@ -1,12 +1,11 @@
 -- Items, one by one.
-use Rattle.std.proofs.Common.{◌≡◌, ℕ, zero, suc, ◌+◌, ◌-◌, ◌<◌, ◌≤◌, List, [], ◌∷◌, ◌++◌, length, map, take, drop, get_or, Option, Some, None, All, refl, sym, ◌∙◌, ap, subst, append_assoc, append-nil, arith}
-use Rattle.std.specs.List.{filter_map, slice_get, cons_option}
+use Rattle.std.proofs.Common.{◌≡◌, ℕ, zero, suc, ◌+◌, ◌-◌, ◌<◌, ◌≤◌, List, [], ◌∷◌, ◌++◌, length, take, drop, get_or, Option, Some, None, refl, sym, ◌∙◌, ap, append_assoc, append-nil, arith}
+use Rattle.std.specs.List.{slice_get, cons_option}
 use Rattle.std.proofs.lemmas.List.{take_more, map-append}
-use Rattle.std.proofs.lemmas.List.Elements.{filter_map-append}
 use Rattle.std.proofs.lemmas.Option.{slice_get-get_or}
 use Rattle.gx_slot.specs.Slots.{Slots, item_at, taken, with_item}
 use Rattle.gx_gist_tree.specs.Insertion.{items_but, items_in, page_with, picked}
-use Rattle.gx_gist_tree.proofs.Picks.{picked_append, somes, taken_append, taken_cons}
+use Rattle.gx_gist_tree.proofs.Picks.{picked_append, somes, taken_cons}
 use Rattle.gx_gist_tree.proofs.RoomFacts.{taken_push}
 
 abbrev pub one_of : Option (List ℕ) → List (List ℕ)

@@ -1,14 +1,12 @@
 -- The keys of items.
-use Rattle.std.proofs.Common.{◌≡◌, ◌≢◌, ⊎_elim, ℕ, zero, suc, ◌+◌, ◌-◌, ◌<◌, ◌≤◌, List, [], ◌∷◌, ◌++◌, length, map, take, drop, get_or, Option, Some, None, All, refl, sym, ◌∙◌, ap, subst, length-append, length-drop, append_assoc, arith}
-use Rattle.std.specs.List.{AllZip, filter_map, slice_get, cons_option}
-use Rattle.std.specs.Prelude.{Contains, MatchOption}
+use Rattle.std.proofs.Common.{◌≡◌, ℕ, zero, suc, ◌+◌, ◌<◌, ◌≤◌, List, [], ◌∷◌, ◌++◌, length, map, take, drop, get_or, Option, Some, None, All, refl, sym, ◌∙◌, ap, subst, length-drop, arith}
+use Rattle.std.specs.List.{AllZip}
+use Rattle.std.specs.Prelude.{MatchOption}
 use Rattle.gx_gist.specs.Spelled.{SpellsNone, IsSpelled}
 use Rattle.std.proofs.lemmas.List.{take_more}
 use Rattle.std.proofs.lemmas.List.Elements.{All-head, All-tail, All-nil, All-cons}
-use Rattle.gx_slot.specs.Slots.{taken, packed}
-use Rattle.gx_gist_tree.specs.Insertion.{AreKeys, IsKeyOf, IsUnion, head_len, picked}
+use Rattle.gx_gist_tree.specs.Insertion.{AreKeys, IsKeyOf, IsUnion}
 use Rattle.gx_gist_tree.specs.Trees.{united_from}
-use Rattle.gx_gist_tree.proofs.Picks.{somes, taken_cons}
 
 pub length_map : {X Y : Type 0} (f : X → Y) (xs : List X) → length (map f xs) ≡ length xs
 length_map f [] = refl

@@ -1,5 +1,5 @@
 -- Items that are laid out anew, at equal slots and items.
-use Rattle.std.proofs.Common.{◌≡◌, ◌⊎◌, inl, inr, ⊎_elim, ℕ, ◌+◌, ◌<◌, ◌≤◌, List, [], ◌∷◌, ◌++◌, length, Option, Some, Result, Ok, Err, is_ok, true, false, refl, sym, ◌∙◌, ap, subst, append_assoc, arith}
+use Rattle.std.proofs.Common.{◌≡◌, ◌⊎◌, ℕ, ◌≤◌, List, [], ◌∷◌, ◌++◌, length, Result, Ok, Err, is_ok, false, ◌∙◌, ap, subst, append_assoc, arith}
 use Rattle.std.specs.Prelude.{OnErr}
 use Rattle.gx_pages.specs.declared.error.PageError.{PageError}
 use Rattle.gx_pages.specs.declared.error.PageError.TheVariants.{Broken, Memory}

@@ -1,13 +1,12 @@
 -- A row on a page of level 0.
-use Rattle.std.proofs.Common.{◌≡◌, ◌≢◌, ◌⊎◌, inl, inr, ⊎_elim, ℕ, zero, suc, ◌+◌, ◌<◌, ◌≤◌, List, [], ◌∷◌, ◌++◌, length, map, take, drop, Option, Some, None, All, refl, sym, ◌∙◌, ap, subst, append_assoc, append-nil, length-append, arith}
+use Rattle.std.proofs.Common.{◌≡◌, inl, inr, ⊎_elim, ℕ, List, [], ◌∷◌, ◌++◌, map, Option, Some, None, All, refl, sym, ◌∙◌, ap, subst}
 use Rattle.std.specs.Prelude.{IfSome}
-use Rattle.std.specs.List.{AllByRecursion, filter_map, flat_map}
+use Rattle.std.specs.List.{filter_map}
 use Rattle.std.specs.Option.{option_map}
 use Rattle.std.specs.List.Sorted.{IsPermutation}
 use Rattle.std.proofs.lemmas.List.{map-append}
 use Rattle.std.proofs.lemmas.List.Elements.{All-head, All-tail, All-nil, All-cons, All-append, filter_map-append}
-use Rattle.std.proofs.lemmas.List.Sorted.{IsPermutation-refl, IsPermutation-sym, IsPermutation-trans, IsPermutation-to_front}
-use Rattle.gx_words.specs.PageMap.{PageMap}
+use Rattle.std.proofs.lemmas.List.Sorted.{IsPermutation-sym, IsPermutation-trans, IsPermutation-to_front}
 use Rattle.gx_pages.specs.declared.row.RowRef.{RowRef}
 use Rattle.gx_pages.specs.declared.store.Pages.{Ghosts as PageGhosts}
 use Rattle.gx_pages.specs.Footprints.{IsOutside, KeepsPages}
@@ -17,9 +16,9 @@ use Rattle.gx_gist_tree.specs.declared.change.Change.{Change}
 use Rattle.gx_gist_tree.specs.declared.change.Change.TheVariants.{Within, Split}
 use Rattle.gx_gist_tree.specs.declared.change.Arranged.{Arranged}
 use Rattle.gx_gist_tree.specs.declared.change.Arranged.TheVariants.{Same, Here, Halves}
-use Rattle.gx_gist_tree.specs.Trees.{Node, Entry, Outcome, entries, pages_of}
-use Rattle.gx_gist_tree.specs.OnPages.{FitsFields, IsOn, Stands, leaf_item, slots_of}
-use Rattle.gx_gist_tree.specs.Insertion.{AreHalves, AreKeys, IsAdded, IsInserted, IsLaid, IsPut, IsReady, IsUnion, IsWritten, head_len, items_in, page_with}
+use Rattle.gx_gist_tree.specs.Trees.{Node, Entry}
+use Rattle.gx_gist_tree.specs.OnPages.{FitsFields, IsOn, leaf_item, slots_of}
+use Rattle.gx_gist_tree.specs.Insertion.{AreKeys, IsAdded, IsInserted, IsLaid, IsPut, IsReady, IsUnion, IsWritten, head_len, items_in, page_with}
 use Rattle.gx_gist_tree.proofs.Cuts.{IsCut, cut_of, items_in_map, somes_map, all_somes}
 use Rattle.gx_gist_tree.proofs.ItemFacts.{leaf_long, leaf_key}
 use Rattle.gx_gist_tree.proofs.KeyFacts.{Spells, keys_there}
@@ -160,10 +159,10 @@ module _ {P C V Q K : Type 0} (p : PageGhosts P) (g : Ghosts C V Q K) (class : C
     leaf_laid Here (Split l taken r) laid put = absurd put
     leaf_laid (Halves l other r) Within laid put = absurd put
     leaf_laid (Halves l other r) (Split k taken m) laid put =
-        let cut = cut_of (g.valid_key class) (g.union_of class) bytes one 0 (leaf_item bytes) (λ (x : Entry K). x.1) all spelled (items_in before.items ++ leaf_item bytes e ∷ []) items_all slots other l r laid in
+        let cut = cut_of (g.valid_key class) (g.union_of class) bytes one 0 (leaf_item bytes) (λ (x : Entry K). x.1) all spelled (items_in before.items ++ leaf_item bytes e ∷ []) items_all slots other.value l r laid in
         subst (λ (a : K). IsInserted p g class old new row key 0 node free slots (Split a taken m)) (sym put.0)
         (subst (λ (b : K). IsInserted p g class old new row key 0 node free slots (Split l taken b)) (sym put.1)
-        (leaf_two l r taken other cut put.2 put.3 put.4.0 put.4.1))
+        (leaf_two l r taken other.value cut put.2 put.3 put.4.0 put.4.1))
 
     leaf_here : (a : Arranged K) (change : Change K) → a ≡ Here → slots ≡ with_item before (Some (leaf_item bytes e)) → IsPut p old new node.0 slots free a change → IsInserted p g class old new row key 0 node free slots change
     leaf_here a change is added put = at change (subst (λ (x : Arranged K). IsPut p old new node.0 slots free x change) is put)

@@ -1,5 +1,5 @@
 -- An empty tree on a page that was taken.
-use Rattle.std.proofs.Common.{◌≡◌, ◌≢◌, ℕ, ◌<◌, ◌≤◌, List, [], ◌∷◌, ◌++◌, Some, All, refl, sym, ◌∙◌, ap, subst, arith}
+use Rattle.std.proofs.Common.{◌≡◌, ℕ, ◌<◌, ◌≤◌, List, [], ◌∷◌, ◌++◌, Some, refl, sym, ◌∙◌, ap, subst}
 use Rattle.std.proofs.lemmas.List.Elements.{All-nil}
 use Rattle.gx_words.specs.PageMap.{PageMap, with_page}
 use Rattle.gx_pages.specs.declared.store.Pages.{Ghosts as PageGhosts}
@@ -7,9 +7,9 @@ use Rattle.gx_pages.specs.Frees.{IsApart, IsFreeList, KeepsHeader, Taken}
 use Rattle.gx_pages.specs.Footprints.{ChangesOnly, KeepsPages, grown}
 use Rattle.gx_pages.proofs.Footprints as feet
 use Rattle.gx_gist.specs.declared.class.GistClass.{Ghosts}
-use Rattle.gx_slot.specs.Slots.{Slots, Fits, spelling}
+use Rattle.gx_slot.specs.Slots.{Fits, spelling}
 use Rattle.gx_gist_tree.specs.Trees.{Entry, IsLeafKey}
-use Rattle.gx_gist_tree.specs.OnPages.{Whole, IsOn, Holds, HoldsBeside, FitsFields}
+use Rattle.gx_gist_tree.specs.OnPages.{Whole, Holds, HoldsBeside, FitsFields}
 
 module _ {P C V Q K : Type 0} (p : PageGhosts P) (g : Ghosts C V Q K) (class : C) (old new : P) (page : ℕ) (middle : PageMap) (bytes : List ℕ)
     (spelled : bytes ≡ spelling (record { kind = 4; level = 0; next = 0; items = [] })) (fits : Fits (record { kind = 4; level = 0; next = 0; items = [] }))

@@ -1,13 +1,13 @@
 -- Pages that are kept: beside others, in another order, and behind an earlier change.
-use Rattle.std.proofs.Common.{◌≡◌, ◌≢◌, ℕ, zero, suc, ◌+◌, ◌-◌, ◌<◌, ◌≤◌, List, [], ◌∷◌, ◌++◌, length, get_or, All, refl, sym, ◌∙◌, ap, subst, arith}
-use Rattle.std.specs.List.{AllByRecursion, range_with_len}
+use Rattle.std.proofs.Common.{◌≡◌, ◌≢◌, ℕ, ◌-◌, ◌<◌, ◌≤◌, List, [], ◌∷◌, ◌++◌, All, arith}
+use Rattle.std.specs.List.{AllByRecursion}
 use Rattle.std.specs.List.Sorted.{IsPermutation}
 use Rattle.std.proofs.lemmas.List.FromFn.{length-range_with_len, get_or-range_with_len}
 use Rattle.std.proofs.lemmas.List.Elements.{All-append, All-from_recursion, recursion_from_All}
 use Rattle.std.proofs.lemmas.List.Sorted.{All-permutation}
 use Rattle.gx_words.specs.PageMap.{PageMap}
 use Rattle.gx_pages.specs.declared.store.Pages.{Ghosts}
-use Rattle.gx_pages.specs.Frees.{IsApart, IsFreeList}
+use Rattle.gx_pages.specs.Frees.{IsApart}
 use Rattle.gx_pages.specs.Footprints.{IsOutside, KeepsPages, grown}
 use Rattle.gx_pages.proofs.Footprints as feet
 use Rattle.gx_gist_tree.proofs.Permuted.{permuted}

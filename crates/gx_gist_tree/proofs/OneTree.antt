@@ -1,16 +1,15 @@
 -- A map holds at most one tree below a root page.
-use Rattle.std.proofs.Common.{◌≡◌, ◌≢◌, ℕ, zero, suc, ◌+◌, ◌^◌, ◌<◌, ◌≤◌, List, [], ◌∷◌, ◌++◌, map, take, drop, Option, Some, None, All, refl, sym, ◌∙◌, ap, subst, lit≤, arith}
+use Rattle.std.proofs.Common.{◌≡◌, ℕ, zero, suc, ◌^◌, ◌<◌, ◌≤◌, List, [], ◌∷◌, map, take, drop, Option, Some, None, All, refl, sym, ◌∙◌, ap, subst, arith}
 use Rattle.std.specs.Prelude.{IfSome}
 use Rattle.std.specs.Option.{option_map}
 use Rattle.std.proofs.lemmas.List.Elements.{All-head, All-tail}
-use Rattle.gx_bytes.specs.Fields.{le16, le64, le16-same, le64-same}
+use Rattle.gx_bytes.specs.Fields.{le16-same, le64-same}
 use Rattle.gx_words.specs.PageMap.{PageMap}
-use Rattle.gx_pages.specs.declared.row.RowRef.{RowRef}
 use Rattle.gx_gist.specs.declared.class.GistClass.{Ghosts}
-use Rattle.gx_slot.specs.Slots.{Slots, Fits, read, spelling}
+use Rattle.gx_slot.specs.Slots.{Slots, Fits, spelling}
 use Rattle.gx_slot.proofs.SlotFacts.{is_read}
 use Rattle.gx_gist_tree.specs.Trees.{Node, Entry, page_of}
-use Rattle.gx_gist_tree.specs.OnPages.{Whole, Holds, IsOn, IsSound, FitsFields, leaf_item, inner_item, slots_of}
+use Rattle.gx_gist_tree.specs.OnPages.{Whole, Holds, IsSound, FitsFields, leaf_item, inner_item, slots_of}
 use Rattle.gx_gist_tree.proofs.ItemFacts.{leaf_number, leaf_page, leaf_slot, leaf_key, inner_page, inner_key}
 use Rattle.gx_gist_tree.proofs.VisitFacts.{is_on, flat_level}
 use Rattle.gx_gist_tree.proofs.HeldFacts.{held_sound}

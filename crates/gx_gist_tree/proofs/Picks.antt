@@ -1,7 +1,6 @@
 -- Elements at places.
-use Rattle.std.proofs.Common.{◌≡◌, ℕ, zero, suc, ◌+◌, ◌*◌, ◌<◌, ◌≤◌, List, [], ◌∷◌, ◌++◌, length, map, get_or, sum, Option, Some, None, All, refl, sym, ◌∙◌, ap, subst, length-append, arith}
-use Rattle.std.specs.Prelude.{sum_by}
-use Rattle.std.specs.List.{filter_map, range_with_len, slice_get, cons_option}
+use Rattle.std.proofs.Common.{◌≡◌, ℕ, zero, suc, ◌+◌, ◌<◌, List, [], ◌∷◌, ◌++◌, length, map, get_or, sum, Option, Some, None, All, refl, sym, ◌∙◌, ap, subst, length-append, arith}
+use Rattle.std.specs.List.{range_with_len, slice_get, cons_option}
 use Rattle.std.specs.Option.{option_map}
 use Rattle.std.specs.List.Sorted.{IsPermutation}
 use Rattle.std.proofs.lemmas.Option.{slice_get-map, slice_get-get_or}

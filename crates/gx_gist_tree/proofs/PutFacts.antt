@@ -1,5 +1,5 @@
 -- Keys of halves that are handed on.
-use Rattle.std.proofs.Common.{◌≡◌, sym, subst}
+use Rattle.std.proofs.Common.{sym, subst}
 use Rattle.gx_gist_tree.specs.declared.change.Change.{Change}
 use Rattle.gx_gist_tree.specs.declared.change.Change.TheVariants.{Within, Split}
 use Rattle.gx_gist_tree.specs.declared.change.Arranged.{Arranged}

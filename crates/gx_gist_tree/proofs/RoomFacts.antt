@@ -1,7 +1,6 @@
 -- What items take on a page.
-use Rattle.std.proofs.Common.{◌≡◌, ℕ, zero, suc, ◌+◌, ◌-◌, ◌*◌, ◌<◌, ◌≤◌, List, [], ◌∷◌, ◌++◌, length, map, take, drop, sum, Option, Some, None, All, refl, sym, ◌∙◌, ap, subst, length-append, arith}
-use Rattle.std.specs.List.{filter_map}
-use Rattle.std.proofs.lemmas.List.{map-append, length-map}
+use Rattle.std.proofs.Common.{◌≡◌, ℕ, zero, suc, ◌+◌, ◌<◌, ◌≤◌, List, [], ◌∷◌, ◌++◌, length, take, drop, Option, Some, None, refl, ap, length-append, arith}
+use Rattle.std.proofs.lemmas.List.{map-append}
 use Rattle.gx_bytes.specs.Fields.{le16, le64, length-le16, length-le64}
 use Rattle.gx_slot.specs.Slots.{taken, packed}
 use Rattle.gx_gist_tree.specs.Trees.{Entry}

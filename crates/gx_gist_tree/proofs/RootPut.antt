@@ -1,11 +1,11 @@
 -- A tree after an insert.
-use Rattle.std.proofs.Common.{◌≡◌, ◌≢◌, ◌⊎◌, inl, inr, ⊎_elim, ℕ, zero, suc, ◌+◌, ◌-◌, ◌*◌, ◌^◌, ◌<◌, ◌≤◌, List, [], ◌∷◌, ◌++◌, length, map, Option, Some, None, All, refl, sym, ◌∙◌, ap, subst, append_assoc, append-nil, length-append, lit<, arith}
-use Rattle.std.specs.List.{AllByRecursion, flat_map, filter_map}
+use Rattle.std.proofs.Common.{◌≡◌, ◌≢◌, inl, inr, ⊎_elim, ℕ, zero, suc, ◌+◌, ◌^◌, ◌<◌, ◌≤◌, List, [], ◌∷◌, ◌++◌, map, Some, All, refl, sym, ◌∙◌, ap, subst, append-nil, length-append, lit<, arith}
+use Rattle.std.specs.List.{AllByRecursion, flat_map}
 use Rattle.std.specs.List.Sorted.{IsPermutation}
 use Rattle.std.proofs.lemmas.List.Elements.{All-head, All-tail, All-nil, All-cons}
-use Rattle.std.proofs.lemmas.List.Sorted.{IsPermutation-refl, IsPermutation-map}
+use Rattle.std.proofs.lemmas.List.Sorted.{IsPermutation-map}
 use Rattle.std.proofs.lemmas.Bool.{cases_lt}
-use Rattle.std.proofs.Math.Nat.{pow-suc, pow-le-pow_right}
+use Rattle.std.proofs.Math.Nat.{pow-le-pow_right}
 use Rattle.gx_words.specs.PageMap.{PageMap}
 use Rattle.gx_pages.specs.declared.row.RowRef.{RowRef}
 use Rattle.gx_pages.specs.declared.store.Pages.{Ghosts as PageGhosts}
@@ -14,18 +14,16 @@ use Rattle.gx_pages.specs.Footprints.{IsOutside, KeepsPages}
 use Rattle.gx_pages.proofs.Footprints as feet
 use Rattle.gx_slot.specs.Slots.{Slots, Fits, spelling}
 use Rattle.gx_gist.specs.declared.class.GistClass.{Ghosts}
-use Rattle.gx_gist_tree.specs.declared.change.Change.{Change}
 use Rattle.gx_gist_tree.specs.declared.change.Change.TheVariants.{Within, Split}
-use Rattle.gx_gist_tree.specs.Trees.{Node, Entry, Outcome, entries, keys_on, page_of, pages_of, items_above, now_on, HasTwoItems, Inserts, IsAbove, IsKept, AreKept, IsLeafKey, IsTree, IsUnited, AreTrees}
-use Rattle.gx_gist_tree.specs.OnPages.{FitsFields, Holds, HoldsBeside, IsOn, IsRead, Stands, Whole, entries_of, footprint, inner_item, slots_of}
+use Rattle.gx_gist_tree.specs.Trees.{Node, Entry, Outcome, entries, page_of, pages_of, items_above, now_on, HasTwoItems, Inserts, IsAbove, IsKept, AreKept, IsLeafKey, IsTree, IsUnited, AreTrees}
+use Rattle.gx_gist_tree.specs.OnPages.{FitsFields, HoldsBeside, IsOn, IsRead, Stands, Whole, entries_of, footprint, inner_item, slots_of}
 use Rattle.gx_gist_tree.specs.Insertion.{Describes, IsInserted, IsReady, IsWritten, OnEach, first_of, page_with, pages_now}
 use Rattle.gx_gist_tree.proofs.HeldFacts.{many_pages}
 use Rattle.gx_gist_tree.proofs.InsertFacts.{all_now, insert_keeps, united_above}
 use Rattle.gx_gist_tree.proofs.StayFacts.{stands_same, stands_some}
 use Rattle.gx_gist_tree.proofs.Entered.{entered}
-use Rattle.gx_gist_tree.proofs.Moves.{below_now, beside_same, keeps_beside, keeps_moved}
-use Rattle.gx_gist_tree.proofs.Permuted.{permuted}
-use Rattle.gx_gist_tree.proofs.UpperItems.{item_bytes, page_items, stand_items}
+use Rattle.gx_gist_tree.proofs.Moves.{below_now, beside_same, keeps_beside}
+use Rattle.gx_gist_tree.proofs.UpperItems.{page_items, stand_items}
 
 -- a page with all that is below it, on another page
 pub moved_to : (K : Type 0) (level : ℕ) → ℕ → Node K level → Node K level

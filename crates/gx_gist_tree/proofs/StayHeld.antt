@@ -1,9 +1,9 @@
 -- A tree stays where its pages do.
-use Rattle.std.proofs.Common.{◌≡◌, ◌≢◌, ℕ, ◌+◌, ◌<◌, ◌≤◌, List, [], ◌∷◌, ◌++◌, arith}
+use Rattle.std.proofs.Common.{◌≡◌, ◌≢◌, ℕ, ◌<◌, ◌≤◌, List, [], ◌∷◌, ◌++◌, arith}
 use Rattle.std.specs.List.{AllByRecursion}
 use Rattle.gx_words.specs.PageMap.{PageMap}
 use Rattle.gx_pages.specs.declared.store.Pages.{Ghosts as PageGhosts}
-use Rattle.gx_pages.specs.Frees.{IsApart, IsFreeList}
+use Rattle.gx_pages.specs.Frees.{IsApart}
 use Rattle.gx_pages.specs.Footprints.{IsOutside, KeepsPages}
 use Rattle.gx_pages.proofs.Footprints as feet
 use Rattle.gx_gist.specs.declared.class.GistClass.{Ghosts}

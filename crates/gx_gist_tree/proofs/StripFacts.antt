@@ -1,5 +1,5 @@
 -- Rows that are taken out of pages of level 0.
-use Rattle.std.proofs.Common.{◌≡◌, ◌≢◌, ◌⊎◌, inl, inr, ⊎_elim, ℕ, zero, suc, ◌+◌, ◌<◌, ◌≤◌, Bool, true, false, List, [], ◌∷◌, ◌++◌, length, map, take, drop, slice_set, Option, Some, None, All, if◌then◌else◌, refl, sym, ◌∙◌, ap, subst, append_assoc, append-nil, arith}
+use Rattle.std.proofs.Common.{◌≡◌, ◌⊎◌, inl, inr, ⊎_elim, ℕ, zero, suc, ◌+◌, ◌≤◌, Bool, true, false, List, [], ◌∷◌, ◌++◌, length, map, take, drop, slice_set, Option, Some, None, All, if◌then◌else◌, refl, sym, ◌∙◌, ap, subst, append_assoc, append-nil, arith}
 use Rattle.std.specs.Prelude.{IfSome, IsTrue, ◌↔◌}
 use Rattle.std.specs.Option.{option_map}
 use Rattle.std.proofs.lemmas.Bool.Decides.{eqb_tells}
@@ -12,8 +12,8 @@ use Rattle.gx_pages.specs.Rows.{HasNumber}
 use Rattle.gx_pages.proofs.Footprints as feet
 use Rattle.gx_gist.specs.declared.class.GistClass.{Ghosts}
 use Rattle.gx_slot.specs.Slots.{Slots, Fits, item_at, spelling}
-use Rattle.gx_gist_tree.specs.Trees.{Node, Entry, kept_slot, page_of, pages_of, stripped}
-use Rattle.gx_gist_tree.specs.OnPages.{FitsFields, IsOn, IsRead, Stands, is_in, leaf_item, slots_of}
+use Rattle.gx_gist_tree.specs.Trees.{Node, Entry, kept_slot, pages_of, stripped}
+use Rattle.gx_gist_tree.specs.OnPages.{FitsFields, IsRead, Stands, is_in, leaf_item, slots_of}
 use Rattle.gx_gist_tree.proofs.Places.{At, item_mid, set_mid, take_whole}
 
 tells : (rows : List RowRef) (n : ℕ) → ((is_in rows n ≡ true) × HasNumber rows n) ⊎ ((is_in rows n ≡ false) × (HasNumber rows n → ⊥))

@@ -1,16 +1,16 @@
 -- The tree without the rows that were taken out.
-use Rattle.std.proofs.Common.{◌≡◌, ◌≢◌, ℕ, zero, suc, ◌+◌, ◌<◌, ◌≤◌, Bool, true, false, List, [], ◌∷◌, ◌++◌, length, map, filter, Option, Some, None, All, if◌then◌else◌, refl, sym, ◌∙◌, ap, subst, append-nil, arith}
+use Rattle.std.proofs.Common.{◌≡◌, ◌≢◌, ℕ, zero, suc, ◌<◌, ◌≤◌, Bool, true, false, List, [], ◌∷◌, ◌++◌, length, map, filter, Option, Some, None, All, if◌then◌else◌, refl, sym, ◌∙◌, ap, subst, append-nil, arith}
 use Rattle.std.specs.Prelude.{not}
 use Rattle.std.specs.List.{AllByRecursion, flat_map, filter_map}
 use Rattle.std.proofs.lemmas.List.Elements.{All-head, All-tail, All-nil, All-cons, filter-append}
 use Rattle.gx_words.specs.PageMap.{PageMap}
 use Rattle.gx_pages.specs.declared.row.RowRef.{RowRef}
 use Rattle.gx_pages.specs.declared.store.Pages.{Ghosts as PageGhosts}
-use Rattle.gx_pages.specs.Frees.{IsApart, IsFreeChain, IsFreeList}
-use Rattle.gx_pages.specs.Footprints.{IsOutside, ChangesOnly, KeepsPages, grown}
+use Rattle.gx_pages.specs.Frees.{IsApart, IsFreeChain}
+use Rattle.gx_pages.specs.Footprints.{ChangesOnly, KeepsPages, grown}
 use Rattle.gx_pages.proofs.Footprints as feet
 use Rattle.gx_gist.specs.declared.class.GistClass.{Ghosts}
-use Rattle.gx_gist_tree.specs.Trees.{Node, Entry, entries, items_above, kept_slot, page_of, pages_of, stripped, IsAbove, IsLeafKey, IsTree, HasTwoItems}
+use Rattle.gx_gist_tree.specs.Trees.{Node, Entry, entries, items_above, kept_slot, page_of, stripped, IsAbove, IsLeafKey, IsTree, HasTwoItems}
 use Rattle.gx_gist_tree.specs.OnPages.{Whole, Stands, Holds, HoldsBeside, FitsFields, entries_of, footprint, is_in}
 use Rattle.gx_gist_tree.proofs.StripWalk.{page_stripped, pages_stripped}
 

@@ -1,5 +1,5 @@
 -- A walk that takes rows out, page by page.
-use Rattle.std.proofs.Common.{◌≡◌, ◌≢◌, ℕ, zero, suc, ◌+◌, ◌<◌, Bool, List, [], ◌∷◌, ◌++◌, map, take, Option, Some, All, refl, sym, ◌∙◌, ap, subst, append_assoc, arith}
+use Rattle.std.proofs.Common.{◌≡◌, ◌≢◌, ℕ, zero, suc, ◌+◌, Bool, List, [], ◌∷◌, ◌++◌, map, take, Option, Some, All, refl, sym, ◌∙◌, ap, subst, append_assoc}
 use Rattle.std.specs.List.{AllByRecursion, flat_map}
 use Rattle.std.proofs.lemmas.List.Elements.{All-nil, All-cons}
 use Rattle.gx_words.specs.PageMap.{PageMap}
@@ -9,7 +9,7 @@ use Rattle.gx_pages.proofs.Footprints as feet
 use Rattle.gx_gist.specs.declared.class.GistClass.{Ghosts}
 use Rattle.gx_slot.specs.Slots.{Slots, Fits, spelling}
 use Rattle.gx_gist_tree.specs.Trees.{Node, Entry, page_of, pages_of, stripped}
-use Rattle.gx_gist_tree.specs.OnPages.{IsOn, Stands, IsSound, IsRead, IsBelow, inner_item, slots_of}
+use Rattle.gx_gist_tree.specs.OnPages.{Stands, IsRead, IsBelow, inner_item, slots_of}
 use Rattle.gx_gist_tree.proofs.Places.{At, flat_more, flat_split}
 use Rattle.gx_gist_tree.proofs.VisitFacts.{below_pages, is_below}
 use Rattle.gx_gist_tree.proofs.StayFacts.{apart_swap, stands_same, stands_some, sound_stands, sound_same, unchanged}

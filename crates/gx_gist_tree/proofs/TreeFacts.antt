@@ -1,6 +1,6 @@
 -- Trees and what searches find in them.
-use Rattle.std.proofs.Common.{refl, sym, ap, subst, ◌∙◌, ◌≡◌, ◌≢◌, ℕ, zero, suc, Bool, true, false, List, [], ◌∷◌, ◌++◌, filter, All, if◌then◌else◌, arith}
-use Rattle.std.specs.List.{flat_map, filter_map}
+use Rattle.std.proofs.Common.{refl, sym, subst, ◌≡◌, ◌≢◌, ℕ, zero, suc, Bool, true, false, List, [], ◌∷◌, filter, All, if◌then◌else◌}
+use Rattle.std.specs.List.{flat_map}
 use Rattle.std.proofs.lemmas.List.Elements.{All-head, All-tail, All-nil, All-append, filter-append}
 use Rattle.gx_gist.specs.declared.test.Test.{Test}
 use Rattle.gx_gist.specs.declared.test.Test.TheVariants.{No, Maybe, Yes}

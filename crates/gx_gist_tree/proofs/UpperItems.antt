@@ -1,23 +1,17 @@
 -- What stands in place of an item above level 0, after an insert below it.
-use Rattle.std.proofs.Common.{◌≡◌, ◌≢◌, ◌⊎◌, inl, inr, ⊎_elim, ℕ, zero, suc, ◌+◌, ◌<◌, ◌≤◌, List, [], ◌∷◌, ◌++◌, length, map, take, drop, slice_set, Option, Some, None, All, refl, sym, ◌∙◌, ap, subst, append_assoc, append-nil, length-append, arith}
+use Rattle.std.proofs.Common.{◌≡◌, ◌≢◌, inl, inr, ℕ, suc, ◌≤◌, List, [], ◌∷◌, ◌++◌, length, map, Option, All, refl, sym, ◌∙◌, ap, subst, append-nil, arith}
 use Rattle.std.specs.Prelude.{Contains}
 use Rattle.std.specs.List.{AllByRecursion, flat_map}
-use Rattle.std.specs.List.Sorted.{IsPermutation}
-use Rattle.std.proofs.lemmas.List.{map-append}
-use Rattle.std.proofs.lemmas.List.Elements.{All-head, All-tail, All-nil, All-cons, All-append, All-weaker}
+use Rattle.std.proofs.lemmas.List.Elements.{All-head, All-tail, All-nil, All-cons, All-weaker}
 use Rattle.gx_words.specs.PageMap.{PageMap}
 use Rattle.gx_pages.specs.declared.row.RowRef.{RowRef}
 use Rattle.gx_pages.proofs.Footprints as feet
-use Rattle.gx_slot.specs.Slots.{Slots, with_slot, item_at}
 use Rattle.gx_gist_tree.specs.declared.change.Change.{Change}
 use Rattle.gx_gist_tree.specs.declared.change.Change.TheVariants.{Within, Split}
-use Rattle.gx_gist_tree.specs.Trees.{Node, Entry, Outcome, page_of, pages_of, items_above, HasTwoItems, Inserts, Replaces, IsKept, AreKept}
+use Rattle.gx_gist_tree.specs.Trees.{Node, Outcome, page_of, pages_of, items_above, HasTwoItems, Inserts, Replaces, IsKept, AreKept}
 use Rattle.gx_gist_tree.specs.OnPages.{Stands, inner_item, slots_of}
-use Rattle.gx_gist_tree.specs.Insertion.{Describes, HasValidKeys, OnEach, first_of, inner_items, items_but, page_with, pages_now}
-use Rattle.gx_gist_tree.proofs.Places.{At, set_mid}
-use Rattle.gx_gist_tree.proofs.Picks.{somes}
-use Rattle.gx_gist_tree.proofs.Cuts.{items_but_map, somes_items}
-use Rattle.gx_gist_tree.proofs.KeyFacts.{length_map}
+use Rattle.gx_gist_tree.specs.Insertion.{Describes, HasValidKeys, OnEach, first_of, inner_items, page_with, pages_now}
+use Rattle.gx_gist_tree.proofs.Cuts.{somes_items}
 use Rattle.gx_gist_tree.proofs.ItemFacts.{inner_long, inner_key}
 use Rattle.gx_gist_tree.proofs.KeyFacts.{Spells}
 use Rattle.gx_gist_tree.proofs.StayFacts.{stands_same, stands_some}

@@ -1,15 +1,14 @@
 -- A page above level 0, after an insert below it.
-use Rattle.std.proofs.Common.{◌≡◌, ◌≢◌, ◌⊎◌, inl, inr, ⊎_elim, ℕ, zero, suc, ◌+◌, ◌<◌, ◌≤◌, List, [], ◌∷◌, ◌++◌, length, map, take, drop, slice_set, Option, Some, None, All, refl, sym, ◌∙◌, ap, subst, append_assoc, append-nil, length-append, arith}
+use Rattle.std.proofs.Common.{◌≡◌, ◌≢◌, ◌⊎◌, inl, inr, ⊎_elim, ℕ, suc, ◌+◌, ◌<◌, ◌≤◌, List, [], ◌∷◌, ◌++◌, length, map, take, slice_set, Option, Some, All, refl, sym, ◌∙◌, ap, subst, append_assoc, append-nil, length-append, arith}
 use Rattle.std.specs.List.{AllByRecursion, flat_map}
 use Rattle.std.specs.List.Sorted.{IsPermutation}
 use Rattle.std.proofs.lemmas.Grind.{flat_map-append}
 use Rattle.std.proofs.lemmas.List.{map-append}
 use Rattle.std.proofs.lemmas.List.Elements.{All-head, All-tail, All-nil, All-cons, All-append, All-weaker}
 use Rattle.std.proofs.lemmas.List.Sorted.{IsPermutation-refl, IsPermutation-trans, IsPermutation-cons, IsPermutation-append_right, IsPermutation-append_comm, All-permutation, length_permutation}
-use Rattle.gx_words.specs.PageMap.{PageMap}
 use Rattle.gx_pages.specs.declared.row.RowRef.{RowRef}
 use Rattle.gx_pages.specs.declared.store.Pages.{Ghosts as PageGhosts}
-use Rattle.gx_pages.specs.Frees.{IsApart, IsFreeList}
+use Rattle.gx_pages.specs.Frees.{IsApart}
 use Rattle.gx_pages.specs.Footprints.{IsOutside, KeepsPages}
 use Rattle.gx_pages.proofs.Footprints as feet
 use Rattle.gx_slot.specs.Slots.{Slots, Fits, spelling, with_slot, item_at}
@@ -18,7 +17,7 @@ use Rattle.gx_gist_tree.specs.declared.change.Change.{Change}
 use Rattle.gx_gist_tree.specs.declared.change.Change.TheVariants.{Within, Split}
 use Rattle.gx_gist_tree.specs.declared.change.Arranged.{Arranged}
 use Rattle.gx_gist_tree.specs.declared.change.Arranged.TheVariants.{Same, Here, Halves}
-use Rattle.gx_gist_tree.specs.Trees.{Node, Outcome, page_of, pages_of, items_above, HasTwoItems, IsKept, AreKept}
+use Rattle.gx_gist_tree.specs.Trees.{Node, page_of, pages_of, items_above, HasTwoItems, IsKept, AreKept}
 use Rattle.gx_gist_tree.specs.OnPages.{IsOn, IsSound, Stands, inner_item, slots_of}
 use Rattle.gx_gist_tree.specs.Insertion.{AreKeys, IsInserted, IsLaid, IsPut, IsReady, IsReplaced, IsWritten, HasValidKeys, head_len, inner_items, items_but, page_with, pages_now}
 use Rattle.gx_gist_tree.proofs.Places.{At, all_at, flat_split, set_mid}
@@ -383,10 +382,10 @@ module _ {P C V Q K : Type 0} (p : PageGhosts P) (g : Ghosts C V Q K) (class : C
       upper_laid (Halves l other r) Within laid put = absurd put
       upper_laid (Halves l other r) (Split x taken y) laid put =
           let c = cut_of (g.valid_key class) (g.union_of class) bytes one (suc below) (item_bytes bytes below) (λ (item : K × Node K below). item.0) xs spelled
-          (items_but before.items k ++ inner_items bytes (page_of K below a.item.1) (g.union_of class a.item.0 key) change) items_all slots other l r laid in
+          (items_but before.items k ++ inner_items bytes (page_of K below a.item.1) (g.union_of class a.item.0 key) change) items_all slots other.value l r laid in
           subst (λ (m : K). IsInserted p g class old new row key (suc below) node free slots (Split m taken y)) (sym put.0)
           (subst (λ (m : K). IsInserted p g class old new row key (suc below) node free slots (Split l taken m)) (sym put.1)
-          (upper_two l r taken other c put.2 put.3 put.4.0 put.4.1))
+          (upper_two l r taken other.value c put.2 put.3 put.4.0 put.4.1))
 
       upper_stays : (now : Arranged K) (after : Change K) → ((now ≡ Same) ⊎ (now ≡ Here)) → slots ≡ slots_of bytes (suc below) (node.0, all) → IsPut p mid new node.0 slots left now after
           → IsInserted p g class old new row key (suc below) node free slots after

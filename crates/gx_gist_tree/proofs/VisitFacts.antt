@@ -1,11 +1,7 @@
 -- A walk below a page that was read.
-use Rattle.std.proofs.Common.{◌≡◌, ◌≢◌, ℕ, zero, suc, ◌+◌, ◌-◌, ◌^◌, ◌<◌, ◌≤◌, ◌⊎◌, inl, inr, Bool, true, false, List, [], ◌∷◌, ◌++◌, length, map, take, drop, Option, Some, None, All, if◌then◌else◌, refl, sym, ◌∙◌, ap, subst, append_assoc, append-nil, length-append, add-one, arith}
-use Rattle.std.specs.Prelude.{IfSome, sum_by}
-use Rattle.std.specs.Option.{option_map}
+use Rattle.std.proofs.Common.{◌≡◌, ◌≢◌, ℕ, zero, suc, ◌+◌, ◌-◌, ◌<◌, ◌≤◌, ◌⊎◌, inl, inr, Bool, true, false, List, [], ◌∷◌, ◌++◌, length, map, take, Option, Some, None, if◌then◌else◌, refl, sym, ◌∙◌, ap, subst, append_assoc, arith}
 use Rattle.std.specs.List.{AllByRecursion, flat_map}
 use Rattle.std.proofs.lemmas.List.{map-append}
-use Rattle.std.proofs.lemmas.Grind.{flat_map-append}
-use Rattle.std.proofs.lemmas.List.Sums.{sum_by-append}
 use Rattle.gx_words.specs.PageMap.{PageMap}
 use Rattle.gx_pages.specs.declared.row.RowRef.{RowRef}
 use Rattle.gx_pages.specs.declared.error.PageError.{PageError}
@@ -18,8 +14,8 @@ use Rattle.gx_gist.specs.declared.test.Test.{Test}
 use Rattle.gx_gist.specs.declared.class.GistClass.{Ghosts}
 use Rattle.gx_slot.specs.Slots.{Slots, Fits, item_at, spelling}
 use Rattle.gx_gist_tree.specs.Trees.{Node, Entry, entries, found, passes, page_of, pages_of, visits}
-use Rattle.gx_gist_tree.specs.OnPages.{FitsFields, IsOn, IsSound, IsRead, IsBelow, AreFresh, inner_item, slots_of}
-use Rattle.gx_gist_tree.proofs.Places.{At, at, all_at, flat_more, flat_split, sum_more, sum_split, take_whole, length_mapped}
+use Rattle.gx_gist_tree.specs.OnPages.{IsOn, IsSound, IsRead, IsBelow, AreFresh, inner_item, slots_of}
+use Rattle.gx_gist_tree.proofs.Places.{At, at, all_at, flat_more, flat_split, length_mapped}
 
 -- what is found, and looked at, below an item
 abbrev pub found_in : {K : Type 0} → (K → Test) → (K → Test) → (level : ℕ) → K × Node K level → List (Entry K)

@@ -1,5 +1,5 @@
 -- What an insert makes of a page, and of a tree.
-use Rattle.std.specs.Prelude.{◌≡◌, ◌≢◌, ◌⊎◌, ℕ, zero, suc, ◌+◌, ◌<◌, ◌≤◌, List, [], ◌∷◌, ◌++◌, length, map, take, drop, get_or, Option, Some, None, All, Contains, IsPermutation}
+use Rattle.std.specs.Prelude.{◌≡◌, ◌≢◌, ◌⊎◌, ℕ, zero, suc, ◌+◌, ◌<◌, ◌≤◌, List, [], ◌∷◌, ◌++◌, length, map, take, drop, get_or, Option, Some}
 use Rattle.std.specs.List.{AllByRecursion, AllZip, filter_map, slice_get}
 use Rattle.std.proofs.Common.{inl, inr}
 use Rattle.gx_words.specs.PageMap.{PageMap}
@@ -73,7 +73,7 @@ pub record AreHalves {K : Type 0} (valid : K → Type 0) (union : K → K → K)
 abbrev pub IsLaid : {K : Type 0} → (K → Type 0) → (K → K → K) → (K → List ℕ) → ℕ → List (List ℕ) → Slots → Arranged K → Type 0
 IsLaid valid union bytes level items slots Same = ⊥
 IsLaid valid union bytes level items slots Here = slots ≡ page_with level items
-IsLaid valid union bytes level items slots (Halves l other r) = AreHalves valid union bytes level items slots other l r
+IsLaid valid union bytes level items slots (Halves l other r) = AreHalves valid union bytes level items slots other.value l r
 
 -- An item was added to the slots: behind the last one, or all were laid out anew.
 abbrev pub IsAdded : {K : Type 0} → (K → Type 0) → (K → K → K) → (K → List ℕ) → Slots → List ℕ → Slots → Arranged K → Type 0
@@ -127,7 +127,7 @@ IsPut p old new page slots free (Halves l other r) Within = ⊥
 IsPut p old new page slots free Same (Split l taken r) = ⊥
 IsPut p old new page slots free Here (Split l taken r) = ⊥
 IsPut p old new page slots free (Halves left other right) (Split l taken r) =
-    (l ≡ left) × (r ≡ right) × IsWritten (p.map new) page slots × IsWritten (p.map new) taken other
+    (l ≡ left) × (r ≡ right) × IsWritten (p.map new) page slots × IsWritten (p.map new) taken other.value
     × ((rest : List ℕ) × KeepsPages p old new (page ∷ []) free (page ∷ taken ∷ []) rest)
 
 -- Below this page, which was read, pages hold a part of a tree, and beside it these free pages.

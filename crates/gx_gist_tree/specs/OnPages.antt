@@ -1,7 +1,7 @@
 -- A tree of keys on pages.
-use Rattle.std.specs.Prelude.{◌≡◌, ◌≢◌, ◌⊎◌, ℕ, zero, suc, ◌+◌, ◌^◌, ◌<◌, ◌≤◌, List, [], ◌∷◌, ◌++◌, length, map, filter, Option, Some, None, All, Contains, IsPermutation, Bool, ◌==◌, IfSome}
+use Rattle.std.specs.Prelude.{◌≡◌, ◌≢◌, ℕ, zero, suc, ◌^◌, ◌<◌, List, ◌++◌, map, Some, All, Bool, ◌==◌, IfSome}
 use Rattle.std.specs.Option.{option_map}
-use Rattle.std.specs.List.{AllByRecursion, flat_map, filter_map, list_any}
+use Rattle.std.specs.List.{AllByRecursion, list_any}
 use Rattle.gx_bytes.specs.Fields.{le16, le64}
 use Rattle.gx_words.specs.PageMap.{PageMap}
 use Rattle.gx_pages.specs.declared.row.RowRef.{RowRef}
@@ -10,7 +10,7 @@ use Rattle.gx_pages.specs.Frees.{IsApart, IsFreeList}
 use Rattle.gx_pages.specs.Footprints.{IsOutside}
 use Rattle.gx_slot.specs.Slots.{Slots, Fits, item_at, spelling}
 use Rattle.gx_gist.specs.declared.class.GistClass.{Ghosts}
-use Rattle.gx_gist_tree.specs.Trees.{Node, Entry, entries, page_of, pages_of, visits, IsTree, HasTwoItems}
+use Rattle.gx_gist_tree.specs.Trees.{Node, Entry, entries, page_of, pages_of, IsTree, HasTwoItems}
 
 -- the bytes of an item at level 0, and of one above it
 abbrev pub leaf_item : {K : Type 0} → (K → List ℕ) → Entry K → List ℕ

@@ -15,5 +15,9 @@ pub enum Change<K> {
 pub enum Arranged<K> {
     Same,
     Here,
-    Halves { left: K, page: SlotPage, right: K },
+    Halves {
+        left: K,
+        page: Box<SlotPage>,
+        right: K,
+    },
 }

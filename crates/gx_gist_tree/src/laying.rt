@@ -110,6 +110,17 @@ fn sizes_of(alloc: Global, items: &[Bytes]) -> Result<Sizes, PageError>
     Ok(sizes)
 }
 
+/// A page on the heap: what becomes of a page is handed on by many calls, and is seldom two pages.
+fn boxed(alloc: Global, slots: SlotPage) -> Result<Box<SlotPage>, PageError>
+    ensures ok { IfOk result (λ boxed. boxed.value ≡ slots) }
+    ensures err { IfErr result (λ error. error ≡ PageError.Memory) }
+{
+    match Box::new(alloc, slots) {
+        Ok(boxed) => Ok(boxed),
+        Err(_) => Err(PageError::Memory),
+    }
+}
+
 /// Shares the items of a full page between its slots and another page.
 fn share<C: GistClass>(
     alloc: Global,
@@ -144,12 +155,9 @@ fn share<C: GistClass>(
     let Some(other) = page_at(all, second, level) else {
         unreachable!();
     };
+    let page = boxed(alloc, other)?;
     *slots = here;
-    Ok(Arranged::Halves {
-        left,
-        page: other,
-        right,
-    })
+    Ok(Arranged::Halves { left, page, right })
 }
 
 /// Lays items out anew: in the slots of a page, or where they have no room there in these and on another page.

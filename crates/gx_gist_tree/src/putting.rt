@@ -87,7 +87,7 @@ pub fn put_arranged<P: Pages, K: Drop>(
             page: other,
             right,
         } => {
-            let taken = put_both(pages, page, slots, &other)?;
+            let taken = put_both(pages, page, slots, &*other)?;
             Ok(Change::Split {
                 left,
                 page: taken,

@@ -1,4 +1,4 @@
-use Rattle.std.proofs.Common.{◌≡◌, inr, List, ℕ, ◌≤◌, length, take, drop, refl, sym, ◌∙◌, ap, subst, arith, Some}
+use Rattle.std.proofs.Common.{◌≡◌, inr, List, ℕ, length, drop, ◌∙◌, ap, arith, Some}
 use Rattle.gx_gist_tree.specs.OnPages.{inner_item}
 use Rattle.gx_gist_tree.proofs.ItemFacts.{inner_long, inner_key, one_child}
 use Rattle.gx_gist_tree.proofs.KeyFacts.{read_key}

@@ -1,4 +1,4 @@
-use Rattle.std.proofs.Common.{◌≡◌, inr, List, ℕ, ◌≤◌, length, take, drop, refl, sym, ◌∙◌, ap, subst, arith, Some}
+use Rattle.std.proofs.Common.{◌≡◌, inr, List, ℕ, length, drop, ◌∙◌, ap, arith, Some}
 use Rattle.gx_gist_tree.specs.OnPages.{inner_item}
 use Rattle.gx_gist_tree.proofs.ItemFacts.{answered, inner_long, inner_key}
 use Rattle.gx_gist_tree.proofs.choosing.penalty_at.Goals as goal

@@ -1,4 +1,4 @@
-use Rattle.std.proofs.Common.{◌≡◌, ◌+◌, inl, inr, ⊎_elim, List, ℕ, ◌<◌, ◌≤◌, length, map, refl, sym, ◌∙◌, ap, subst, arith, Some}
+use Rattle.std.proofs.Common.{◌+◌, inl, inr, ⊎_elim, List, ℕ, ◌<◌, length, map, sym, subst, arith}
 use Rattle.std.proofs.lemmas.Result.{err_from_is_err_and}
 use Rattle.gx_gist_tree.proofs.LeastFacts.{IsSoFar, so_far_first, so_far_less, so_far_more, so_far_all, so_far_none, many_items, many_numbers, number_at, never_refused}
 use Rattle.gx_gist_tree.proofs.choosing.slot_for.Goals as goal

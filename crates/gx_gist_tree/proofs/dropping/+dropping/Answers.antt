@@ -1,15 +1,15 @@
-use Rattle.std.proofs.Common.{◌≡◌, ◌≢◌, ◌<◌, ◌≤◌, ◌+◌, ◌-◌, ◌^◌, ◌++◌, ◌∷◌, [], inr, List, ℕ, suc, length, take, refl, sym, ◌∙◌, ap, subst, arith}
+use Rattle.std.proofs.Common.{◌-◌, ◌++◌, ◌∷◌, [], inr, List, ℕ, suc, refl, sym, ◌∙◌, subst, arith}
 use Rattle.std.specs.List.{flat_map}
 use Rattle.std.specs.List.Sorted.{IsPermutation}
 use Rattle.std.proofs.lemmas.List.Sorted.{IsPermutation-refl}
 use Rattle.std.proofs.lemmas.Result.{err_from_is_err_and}
 use Rattle.gx_words.specs.PageMap.{PageMap}
-use Rattle.gx_pages.specs.Frees.{IsApart, IsFreeList, KeepsHeader}
+use Rattle.gx_pages.specs.Frees.{IsApart, IsFreeList}
 use Rattle.gx_pages.specs.Footprints.{ChangesOnly}
 use Rattle.gx_pages.proofs.Footprints.{cause_weaker, quiet_join, header_join, free_list_at}
 use Rattle.gx_gist_tree.specs.Trees.{Node, page_of, pages_of}
-use Rattle.gx_gist_tree.specs.OnPages.{IsBelow, IsRead}
-use Rattle.gx_gist_tree.proofs.Places.{At, take_whole}
+use Rattle.gx_gist_tree.specs.OnPages.{IsRead}
+use Rattle.gx_gist_tree.proofs.Places.{take_whole}
 use Rattle.gx_gist_tree.proofs.VisitFacts.{below_pages, place, many, level_up, read_same, read_well, not_refused, below_same, named_cause}
 use Rattle.gx_gist_tree.proofs.StripWalk.{item_now, only_more}
 use Rattle.gx_gist_tree.proofs.DropWalk.{apart_first, apart_item, moved_more, gave}

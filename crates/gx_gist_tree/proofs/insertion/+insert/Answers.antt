@@ -1,11 +1,11 @@
-use Rattle.std.proofs.Common.{◌≡◌, ◌≢◌, ◌<◌, ◌≤◌, ◌+◌, ◌-◌, ◌^◌, ◌++◌, ◌∷◌, [], inr, List, ℕ, suc, Some, length, refl, sym, ◌∙◌, ap, subst, arith}
+use Rattle.std.proofs.Common.{◌≡◌, List, ℕ, Some, sym, ◌∙◌, ap, subst, arith}
 use Rattle.std.proofs.lemmas.Result.{err_from_is_err_and}
 use Rattle.gx_pages.proofs.Footprints.{cause_weaker, quiet_join}
-use Rattle.gx_slot.specs.Slots.{Slots, Fits, spelling}
+use Rattle.gx_slot.specs.Slots.{Slots, spelling}
 use Rattle.gx_gist_tree.specs.Trees.{Node, page_of}
 use Rattle.gx_gist_tree.specs.OnPages.{slots_of}
 use Rattle.gx_gist_tree.specs.Insertion.{IsInserted, IsReady}
-use Rattle.gx_gist_tree.proofs.Places.{At, at}
+use Rattle.gx_gist_tree.proofs.Places.{at}
 use Rattle.gx_gist_tree.proofs.VisitFacts.{level_up, not_refused, named_cause}
 use Rattle.gx_gist_tree.proofs.ChildFacts.{inserted_same, many_slots, pairs, pairs_are, pairs_some, pairs_valid, ready_at, ready_low, ready_same, ready_slots, refused_at, same_slots}
 use Rattle.gx_gist_tree.proofs.PutFacts.{valid_keys}

@@ -1,7 +1,6 @@
-use Rattle.std.proofs.Common.{◌≡◌, ◌≤◌, List, ℕ, refl, sym, ◌∙◌, ap, subst, arith}
+use Rattle.std.proofs.Common.{◌≡◌, arith}
 use Rattle.std.proofs.lemmas.Result.{err_from_is_err_and}
-use Rattle.gx_pages.proofs.Footprints.{all_right, cause_weaker}
-use Rattle.gx_slot.specs.Slots.{Slots, spelling}
+use Rattle.gx_pages.proofs.Footprints.{cause_weaker}
 use Rattle.gx_gist_tree.proofs.VisitFacts.{named_cause}
 use Rattle.gx_gist_tree.proofs.LeafPut.{leaf_keys, leaf_inserted, leaf_same, leaf_apart}
 use Rattle.gx_gist_tree.proofs.PutFacts.{valid_keys}

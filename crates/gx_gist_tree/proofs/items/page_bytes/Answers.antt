@@ -1,4 +1,3 @@
-use Rattle.std.proofs.Common.{◌≡◌}
 use Rattle.gx_bytes.specs.Fields.{le64}
 use Rattle.gx_gist_tree.proofs.items.page_bytes.Goals as goal
 

@@ -1,4 +1,4 @@
-use Rattle.std.proofs.Common.{◌≡◌, ◌++◌, List, ℕ, ◌∙◌, ap}
+use Rattle.std.proofs.Common.{List, ℕ, ◌∙◌, ap}
 use Rattle.gx_bytes.specs.Fields.{le16, le64, paste}
 use Rattle.gx_gist_tree.proofs.items.row_bytes.Goals as goal
 

@@ -1,4 +1,4 @@
-use Rattle.std.proofs.Common.{◌≡◌, ◌≤◌, ◌+◌, ◌-◌, ◌++◌, [], ℕ, List, take, drop, sym, ◌∙◌, ap, subst, arith}
+use Rattle.std.proofs.Common.{◌≡◌, ◌-◌, ◌++◌, ℕ, List, take, drop, ◌∙◌, ap, arith}
 use Rattle.gx_slot.specs.Slots.{taken}
 use Rattle.gx_gist_tree.specs.Insertion.{items_in}
 use Rattle.gx_gist_tree.proofs.ItemSteps.{items_whole}

@@ -1,6 +1,6 @@
-use Rattle.std.proofs.Common.{◌≡◌, ◌≤◌, ◌+◌, ◌-◌, ◌++◌, [], ℕ, List, take, drop, sym, ◌∙◌, ap, subst, arith}
+use Rattle.std.proofs.Common.{◌-◌, ◌++◌, ℕ, List, take, drop, ◌∙◌, ap, arith}
 use Rattle.gx_slot.specs.Slots.{taken}
-use Rattle.gx_gist_tree.specs.Insertion.{items_but, items_in}
+use Rattle.gx_gist_tree.specs.Insertion.{items_in}
 use Rattle.gx_gist_tree.proofs.ItemSteps.{items_around}
 use Rattle.gx_gist_tree.proofs.Picks.{somes}
 use Rattle.gx_gist_tree.proofs.RoomFacts.{taken_but}

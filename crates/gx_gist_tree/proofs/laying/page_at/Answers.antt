@@ -1,5 +1,4 @@
-use Rattle.std.proofs.Common.{◌≡◌, ◌<◌, ◌≤◌, ◌+◌, ◌++◌, ◌∷◌, [], ℕ, List, take, length, refl, sym, ◌∙◌, ap, subst, arith}
-use Rattle.gx_slot.specs.Slots.{Slots, taken, with_item}
+use Rattle.std.proofs.Common.{◌+◌, ◌++◌, ◌∷◌, [], ℕ, List, take, sym, ◌∙◌, ap, arith}
 use Rattle.gx_slot.proofs.ReadFacts.{ok_part}
 use Rattle.gx_gist_tree.specs.Insertion.{page_with, picked}
 use Rattle.gx_gist_tree.proofs.ItemSteps.{of_taken, page_full, page_more, picked_none, picked_front}

@@ -1,4 +1,4 @@
-use Rattle.std.proofs.Common.{◌≡◌, ◌<◌, ◌≤◌, ◌+◌, ◌-◌, ◌++◌, ◌∷◌, [], ℕ, List, take, drop, sym, ◌∙◌, ap, arith}
+use Rattle.std.proofs.Common.{◌≡◌, ◌≤◌, ◌-◌, ◌++◌, ◌∷◌, [], ℕ, List, take, drop, sym, ◌∙◌, ap, arith}
 use Rattle.gx_gist_tree.specs.Insertion.{items_in}
 use Rattle.gx_gist_tree.proofs.ItemSteps.{items_some, items_none, items_start}
 use Rattle.gx_gist_tree.proofs.laying.push_items.Goals as goal

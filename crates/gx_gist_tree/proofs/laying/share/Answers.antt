@@ -1,10 +1,8 @@
-use Rattle.std.proofs.Common.{◌≡◌, ◌<◌, ◌≤◌, ◌++◌, inl, inr, ⊎_elim, ℕ, List, All, length, map, refl, sym, ◌∙◌, ap, subst, arith}
-use Rattle.std.specs.Prelude.{Contains}
+use Rattle.std.proofs.Common.{◌≡◌, ◌<◌, ◌≤◌, ◌++◌, ℕ, List, All, length, sym, ◌∙◌, ap, subst}
 use Rattle.std.proofs.lemmas.Result.{err_from_is_err_and}
 use Rattle.std.proofs.lemmas.List.Elements.{All-contains}
 use Rattle.gx_slot.specs.Slots.{Slots, taken}
-use Rattle.gx_gist.specs.Places.{IsRearrangement}
-use Rattle.gx_gist_tree.specs.Insertion.{AreHalves, AreKeys, IsUnion, head_len, page_with, picked}
+use Rattle.gx_gist_tree.specs.Insertion.{AreHalves, IsUnion, page_with, picked}
 use Rattle.gx_gist_tree.proofs.Picks.{somes}
 use Rattle.gx_gist_tree.proofs.ShareFacts.{are_sizes, cause_at, fits_left, fits_right, halves_are, items_left, items_right, low_left, low_right, small_items, two_left, two_right, valid_list}
 use Rattle.gx_gist_tree.proofs.laying.share.Goals as goal
@@ -201,5 +199,9 @@ returns-clause-laid g c =
     let made = halves_are V S short c.level-level.result all keys c.in_ok-keys.ensures.ok full room c.in_ok-sizes.sizes c.in_ok-sizes.ensures.ok left right order c.in-Ok.ensures.fit (g.C.GistClass.union_of class) c.in-Some.here c.in-Some-page_at.other c.in_ok-left.left c.in_ok-right.right
     (page left c.as_slice-first.result.now c.in-Some.here c.as_slice-first.ensures c.in-Some.ensures.some) (page right c.as_slice-second.result.now c.in-Some-page_at.other c.as_slice-second.ensures c.in-Some-page_at.ensures.some)
     (union left c.as_slice-first.result.now c.in_ok-left.left c.as_slice-first.ensures c.in_ok-left.ensures.union) (union right c.as_slice-second.result.now c.in_ok-right.right c.as_slice-second.ensures c.in_ok-right.ensures.union) in
-    subst (λ (n : ℕ). AreHalves (g.C.GistClass.valid_key class) (g.C.GistClass.union_of class) (g.C.GistClass.spelling class) n c.args.items.now c.in-Some.here c.in-Some-page_at.other c.in_ok-left.left c.in_ok-right.right) c.level-level.ensures
-    (subst (λ (l : List (List ℕ)). AreHalves (g.C.GistClass.valid_key class) (g.C.GistClass.union_of class) (g.C.GistClass.spelling class) c.level-level.result l c.in-Some.here c.in-Some-page_at.other c.in_ok-left.left c.in_ok-right.right) same made)
+    let valid = g.C.GistClass.valid_key class in
+    let union_of = g.C.GistClass.union_of class in
+    let bytes = g.C.GistClass.spelling class in
+    subst (λ (s : Slots). AreHalves valid union_of bytes c.args.slots.now.level c.args.items.now c.in-Some.here s c.in_ok-left.left c.in_ok-right.right) (sym c.in_ok-page.ensures.ok)
+    (subst (λ (n : ℕ). AreHalves (g.C.GistClass.valid_key class) (g.C.GistClass.union_of class) (g.C.GistClass.spelling class) n c.args.items.now c.in-Some.here c.in-Some-page_at.other c.in_ok-left.left c.in_ok-right.right) c.level-level.ensures
+    (subst (λ (l : List (List ℕ)). AreHalves (g.C.GistClass.valid_key class) (g.C.GistClass.union_of class) (g.C.GistClass.spelling class) c.level-level.result l c.in-Some.here c.in-Some-page_at.other c.in_ok-left.left c.in_ok-right.right) same made))

@@ -1,4 +1,4 @@
-use Rattle.std.proofs.Common.{◌≡◌, ◌+◌, List, ℕ, length, map, take}
+use Rattle.std.proofs.Common.{◌≡◌, ◌+◌, length, map, take}
 use Rattle.gx_gist_tree.proofs.laying.sizes_of.Given as goal
 
 abbrev pub invariant-loop-item : goal.invariant-loop-item

@@ -1,6 +1,5 @@
-use Rattle.std.proofs.Common.{◌≡◌, ◌≤◌, ◌<◌, ℕ, List, Some, refl, sym, ◌∙◌, ap, subst, arith}
+use Rattle.std.proofs.Common.{ℕ, List, Some, sym, ◌∙◌, ap, subst}
 use Rattle.gx_pages.proofs.Footprints.{keeps_none}
-use Rattle.gx_gist_tree.specs.declared.change.Change.{Change}
 use Rattle.gx_gist_tree.specs.declared.change.Change.TheVariants.{Within}
 use Rattle.gx_gist_tree.specs.declared.change.Arranged.{Arranged}
 use Rattle.gx_gist_tree.specs.Insertion.{IsPut}

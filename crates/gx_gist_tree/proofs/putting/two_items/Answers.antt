@@ -1,6 +1,4 @@
-use Rattle.std.proofs.Common.{◌≡◌, ◌≤◌, ◌<◌, ◌+◌, ◌++◌, ◌∷◌, [], ℕ, List, length, refl, sym, ◌∙◌, ap, subst, arith}
-use Rattle.gx_gist_tree.specs.OnPages.{inner_item}
-use Rattle.gx_gist_tree.specs.Insertion.{page_with}
+use Rattle.std.proofs.Common.{◌++◌, ◌∷◌, [], ℕ, List, length, ◌∙◌, ap}
 use Rattle.gx_gist_tree.proofs.RoomFacts.{two_room, inner_room}
 use Rattle.gx_gist_tree.proofs.putting.two_items.Goals as goal
 

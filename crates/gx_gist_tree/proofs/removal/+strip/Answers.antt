@@ -1,15 +1,14 @@
-use Rattle.std.proofs.Common.{◌≡◌, ◌≢◌, ◌<◌, ◌≤◌, ◌+◌, ◌-◌, ◌^◌, ◌++◌, inl, inr, List, ℕ, suc, length, take, refl, sym, ◌∙◌, ap, subst, arith}
+use Rattle.std.proofs.Common.{◌≢◌, ◌++◌, inr, List, ℕ, take, refl, sym, ◌∙◌, subst, arith}
 use Rattle.std.specs.List.{AllByRecursion, flat_map}
 use Rattle.std.proofs.lemmas.Result.{err_from_is_err_and}
 use Rattle.gx_words.specs.PageMap.{PageMap}
 use Rattle.gx_pages.specs.Frees.{IsApart}
 use Rattle.gx_pages.specs.Footprints.{ChangesOnly, IsOutside}
 use Rattle.gx_pages.proofs.Footprints.{cause_weaker, quiet_join, all_left, all_right}
-use Rattle.gx_slot.specs.Slots.{Slots, Fits, spelling}
 use Rattle.gx_gist_tree.specs.Trees.{Entry, Node, page_of, pages_of, stripped}
-use Rattle.gx_gist_tree.specs.OnPages.{AreFresh, IsBelow, IsRead, Stands, is_in}
-use Rattle.gx_gist_tree.proofs.Places.{At, flat_more, take_whole}
-use Rattle.gx_gist_tree.proofs.VisitFacts.{below_pages, place, is_below, many, still_fresh, level_up, read_same, read_well, not_refused, below_same, named_cause}
+use Rattle.gx_gist_tree.specs.OnPages.{AreFresh, IsRead, Stands, is_in}
+use Rattle.gx_gist_tree.proofs.Places.{flat_more, take_whole}
+use Rattle.gx_gist_tree.proofs.VisitFacts.{below_pages, place, many, still_fresh, level_up, read_same, read_well, not_refused, below_same, named_cause}
 use Rattle.gx_gist_tree.proofs.StripWalk.{apart_here, item_now, only_more, done_more, all_done}
 use Rattle.gx_gist_tree.proofs.removal.+strip.Goals as goal
 

@@ -1,4 +1,4 @@
-use Rattle.std.proofs.Common.{◌≡◌, ◌≢◌, ◌+◌, ◌*◌, ℕ, suc, List, take}
+use Rattle.std.proofs.Common.{◌≡◌, ◌≢◌, ◌+◌, ◌*◌, ℕ, suc, take}
 use Rattle.std.specs.List.{AllByRecursion, flat_map}
 use Rattle.gx_pages.specs.Frees.{IsApart}
 use Rattle.gx_pages.specs.Footprints.{ChangesOnly, IsOutside, StaysQuiet}

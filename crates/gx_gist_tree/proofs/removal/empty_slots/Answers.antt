@@ -1,11 +1,11 @@
-use Rattle.std.proofs.Common.{◌≡◌, ◌<◌, ◌++◌, [], List, ℕ, Bool, true, false, Option, Some, None, All, length, map, take, drop, slice_set, refl, sym, ◌∙◌, ap, subst, append-nil, if◌then◌else◌, arith}
+use Rattle.std.proofs.Common.{◌≡◌, List, ℕ, Bool, Option, None, length, take, slice_set, sym, ◌∙◌, ap, if◌then◌else◌, arith}
 use Rattle.std.specs.Prelude.{IfSome}
 use Rattle.std.proofs.lemmas.Result.{err_from_is_err_and}
 use Rattle.gx_slot.specs.Slots.{Slots}
-use Rattle.gx_gist_tree.specs.Trees.{Entry, kept_slot}
+use Rattle.gx_gist_tree.specs.Trees.{Entry}
 use Rattle.gx_gist_tree.specs.OnPages.{FitsFields, is_in}
-use Rattle.gx_gist_tree.proofs.Places.{At, at, all_at, length_mapped}
-use Rattle.gx_gist_tree.proofs.StripFacts.{half, half_at, half_emptied, half_full, half_stays, raw_slots, slot_gone, slot_never}
+use Rattle.gx_gist_tree.proofs.Places.{at, all_at, length_mapped}
+use Rattle.gx_gist_tree.proofs.StripFacts.{half_at, half_emptied, half_full, half_stays, raw_slots, slot_gone, slot_never}
 use Rattle.gx_gist_tree.proofs.removal.empty_slots.Goals as goal
 use Rattle.gx_gist_tree.proofs.removal.empty_slots.Goals.{then-gone, else-gone}
 

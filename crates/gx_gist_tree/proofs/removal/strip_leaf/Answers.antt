@@ -1,4 +1,4 @@
-use Rattle.std.proofs.Common.{◌≡◌, List, ℕ, inr, refl, ◌∙◌, ap}
+use Rattle.std.proofs.Common.{inr, refl, ◌∙◌, ap}
 use Rattle.std.proofs.lemmas.Result.{err_from_is_err_and}
 use Rattle.gx_slot.specs.Slots.{Slots}
 use Rattle.gx_gist_tree.proofs.VisitFacts.{named_cause}

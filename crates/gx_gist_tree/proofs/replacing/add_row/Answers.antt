@@ -1,6 +1,6 @@
-use Rattle.std.proofs.Common.{◌≡◌, ◌≤◌, ◌++◌, ◌∷◌, [], inl, inr, ℕ, List, Some, length, refl, sym, ◌∙◌, ap, subst, arith}
+use Rattle.std.proofs.Common.{inl, inr, ℕ, List, Some, length, refl, sym, ◌∙◌, ap, arith}
 use Rattle.std.proofs.lemmas.Result.{err_from_is_err_and}
-use Rattle.gx_slot.specs.Slots.{Slots, with_item}
+use Rattle.gx_slot.specs.Slots.{with_item}
 use Rattle.gx_gist_tree.specs.OnPages.{leaf_item}
 use Rattle.gx_gist_tree.proofs.LaidFacts.{cause_with, err_kept, laid_with}
 use Rattle.gx_gist_tree.proofs.PutPages.{ok_added}

@@ -1,6 +1,5 @@
-use Rattle.std.proofs.Common.{◌≡◌, ◌≤◌, ◌++◌, ◌∷◌, [], inl, inr, ℕ, List, length, refl, sym, ◌∙◌, ap, subst, arith}
+use Rattle.std.proofs.Common.{◌++◌, ◌∷◌, [], ℕ, List, refl, ◌∙◌, ap}
 use Rattle.std.proofs.lemmas.Result.{err_from_is_err_and}
-use Rattle.gx_slot.specs.Slots.{Slots, taken}
 use Rattle.gx_gist_tree.specs.Insertion.{items_in}
 use Rattle.gx_gist_tree.proofs.LaidFacts.{laid_at, room_one}
 use Rattle.gx_gist_tree.proofs.ShareFacts.{cause_at}

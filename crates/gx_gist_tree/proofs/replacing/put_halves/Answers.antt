@@ -1,6 +1,5 @@
-use Rattle.std.proofs.Common.{◌≡◌, ◌≤◌, ◌++◌, ◌∷◌, [], inl, inr, ℕ, List, length, refl, sym, ◌∙◌, ap, subst, arith}
+use Rattle.std.proofs.Common.{◌++◌, ◌∷◌, [], ℕ, List, length, refl, ◌∙◌, ap, arith}
 use Rattle.std.proofs.lemmas.Result.{err_from_is_err_and}
-use Rattle.gx_slot.specs.Slots.{Slots, taken}
 use Rattle.gx_gist_tree.specs.OnPages.{inner_item}
 use Rattle.gx_gist_tree.specs.Insertion.{items_but}
 use Rattle.gx_gist_tree.proofs.LaidFacts.{laid_at, room_two, two_more}

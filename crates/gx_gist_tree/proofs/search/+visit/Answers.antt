@@ -1,16 +1,14 @@
-use Rattle.std.proofs.Common.{◌≡◌, ◌≢◌, ◌<◌, ◌≤◌, ◌+◌, ◌-◌, ◌^◌, ◌++◌, ◌∷◌, [], inl, inr, ⊎_elim, List, ℕ, suc, Option, Some, true, length, map, take, refl, sym, ◌∙◌, ap, subst, arith}
-use Rattle.std.specs.Prelude.{sum_by, if◌then◌else◌}
-use Rattle.std.specs.List.{AllByRecursion, flat_map}
+use Rattle.std.proofs.Common.{◌≡◌, ◌≢◌, ◌<◌, ◌≤◌, ◌+◌, ◌++◌, List, ℕ, length, map, take, sym, ◌∙◌, ap, subst, arith}
+use Rattle.std.specs.Prelude.{sum_by}
+use Rattle.std.specs.List.{flat_map}
 use Rattle.std.proofs.lemmas.Result.{err_from_is_err_and}
-use Rattle.gx_words.specs.PageMap.{PageMap}
-use Rattle.gx_pages.specs.declared.row.RowRef.{RowRef}
 use Rattle.gx_pages.specs.Footprints.{IsOutside}
 use Rattle.gx_pages.proofs.Footprints.{cause_weaker, quiet_join, all_left, all_right}
-use Rattle.gx_slot.specs.Slots.{Slots, Fits, spelling}
-use Rattle.gx_gist_tree.specs.Trees.{Node, found, page_of, pages_of, passes, visits}
-use Rattle.gx_gist_tree.specs.OnPages.{AreFresh, IsBelow, IsRead}
-use Rattle.gx_gist_tree.proofs.Places.{At, flat_more, sum_more, sum_split, take_whole}
-use Rattle.gx_gist_tree.proofs.VisitFacts.{found_in, visits_in, below_pages, place, is_below, many, still_fresh, unseen_page, level_up, read_same, read_well, not_refused, below_same, some_if, visits_some, rows_next, named_cause, sum_all, sum_next, visit_sum, visit_one, rows_where}
+use Rattle.gx_slot.specs.Slots.{Slots}
+use Rattle.gx_gist_tree.specs.Trees.{Node, found, page_of, pages_of, visits}
+use Rattle.gx_gist_tree.specs.OnPages.{AreFresh, IsRead}
+use Rattle.gx_gist_tree.proofs.Places.{flat_more, sum_more, sum_split, take_whole}
+use Rattle.gx_gist_tree.proofs.VisitFacts.{found_in, visits_in, below_pages, place, is_below, many, still_fresh, level_up, read_same, read_well, not_refused, below_same, some_if, visits_some, rows_next, named_cause, sum_all, sum_next, visit_sum, visit_one, rows_where}
 use Rattle.gx_gist_tree.proofs.search.+visit.Goals as goal
 
 pub visit_items-returns-in_err-visit_slot-clause-visits : goal.visit_items-returns-in_err-visit_slot-clause-visits

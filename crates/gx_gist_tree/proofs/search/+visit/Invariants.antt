@@ -1,8 +1,8 @@
-use Rattle.std.proofs.Common.{◌≡◌, ◌≢◌, ◌++◌, ◌+◌, ◌*◌, ◌≤◌, ℕ, suc, List, map, take}
+use Rattle.std.proofs.Common.{◌≡◌, ◌≢◌, ◌++◌, ◌+◌, ◌*◌, ◌≤◌, ℕ, suc, map, take}
 use Rattle.std.specs.Prelude.{sum_by}
 use Rattle.std.specs.List.{flat_map}
 use Rattle.gx_pages.specs.Footprints.{IsOutside, StaysQuiet}
-use Rattle.gx_gist_tree.specs.Trees.{Node, found, pages_of, page_of, visits}
+use Rattle.gx_gist_tree.specs.Trees.{Node}
 use Rattle.gx_gist_tree.specs.OnPages.{IsRead}
 use Rattle.gx_gist_tree.proofs.VisitFacts.{found_in, visits_in, below_pages}
 use Rattle.gx_gist_tree.proofs.search.+visit.Given as goal

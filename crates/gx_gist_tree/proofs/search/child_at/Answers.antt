@@ -1,4 +1,4 @@
-use Rattle.std.proofs.Common.{◌≡◌, inr, List, ℕ, ◌≤◌, length, take, drop, refl, sym, ◌∙◌, ap, subst, arith, true, false, Some}
+use Rattle.std.proofs.Common.{◌≡◌, inr, List, ℕ, length, drop, sym, ◌∙◌, ap, arith}
 use Rattle.gx_gist.specs.declared.test.Test.{Test}
 use Rattle.gx_gist_tree.specs.Trees.{passes}
 use Rattle.gx_gist_tree.specs.OnPages.{inner_item}

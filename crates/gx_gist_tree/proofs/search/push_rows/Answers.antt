@@ -1,4 +1,4 @@
-use Rattle.std.proofs.Common.{◌≡◌, ◌<◌, ◌++◌, ◌∷◌, [], inl, inr, ⊎_elim, List, ℕ, Option, Some, All, length, map, take, sym, ◌∙◌, ap, append-nil, arith}
+use Rattle.std.proofs.Common.{◌++◌, inl, inr, ⊎_elim, List, ℕ, Option, length, take, sym, ◌∙◌, ap, append-nil, arith}
 use Rattle.std.specs.Prelude.{IfSome}
 use Rattle.std.specs.Option.{option_map}
 use Rattle.std.proofs.lemmas.Result.{err_from_is_err_and}
@@ -6,8 +6,8 @@ use Rattle.gx_pages.specs.declared.row.RowRef.{RowRef}
 use Rattle.gx_slot.specs.Slots.{item_at}
 use Rattle.gx_gist_tree.specs.Trees.{Entry}
 use Rattle.gx_gist_tree.specs.OnPages.{FitsFields, leaf_item}
-use Rattle.gx_gist_tree.proofs.Places.{At, at, all_at, take_whole, length_mapped}
-use Rattle.gx_gist_tree.proofs.ItemFacts.{rows_in, row_in, listed, rows_more, gives, never}
+use Rattle.gx_gist_tree.proofs.Places.{at, all_at, take_whole, length_mapped}
+use Rattle.gx_gist_tree.proofs.ItemFacts.{rows_in, listed, rows_more, gives, never}
 use Rattle.gx_gist_tree.proofs.search.push_rows.Goals as goal
 use Rattle.gx_gist_tree.proofs.search.push_rows.Goals.{in-Some+in-Ok, in_default}
 

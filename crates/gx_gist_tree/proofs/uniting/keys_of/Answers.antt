@@ -1,7 +1,7 @@
-use Rattle.std.proofs.Common.{◌≡◌, inl, inr, ⊎_elim, ◌<◌, ◌+◌, ◌++◌, ◌∷◌, [], ℕ, List, take, get_or, length, sym, ◌∙◌, ap, subst, arith}
+use Rattle.std.proofs.Common.{inl, inr, ⊎_elim, ◌+◌, ℕ, List, take, sym, subst, arith}
 use Rattle.std.specs.List.{AllZip}
 use Rattle.std.proofs.lemmas.Result.{err_from_is_err_and}
-use Rattle.gx_gist_tree.specs.Insertion.{AreKeys, IsKeyOf, head_len}
+use Rattle.gx_gist_tree.specs.Insertion.{IsKeyOf, head_len}
 use Rattle.gx_gist_tree.proofs.KeyFacts.{beside_at, zip_more}
 use Rattle.gx_gist_tree.proofs.uniting.keys_of.Goals as goal
 

@@ -1,4 +1,4 @@
-use Rattle.std.proofs.Common.{◌≡◌, ◌<◌, ◌+◌, ◌++◌, ◌∷◌, [], ℕ, List, take, length, sym, ◌∙◌, ap, arith}
+use Rattle.std.proofs.Common.{sym}
 use Rattle.gx_gist_tree.proofs.ItemSteps.{picked_next}
 use Rattle.gx_gist_tree.proofs.uniting.picked_at.Goals as goal
 

@@ -1,4 +1,4 @@
-use Rattle.std.proofs.Common.{◌≡◌, ℕ, List, take}
+use Rattle.std.proofs.Common.{take}
 use Rattle.gx_gist_tree.specs.Insertion.{IsUnion, picked}
 use Rattle.gx_gist_tree.proofs.uniting.united_key.Given as goal
 

@@ -1,8 +1,7 @@
-use Rattle.std.proofs.Common.{◌≡◌, ◌≢◌, ◌<◌, ◌≤◌, ◌+◌, ◌∷◌, List, ℕ, refl, sym, ◌∙◌, ap, subst, arith}
+use Rattle.std.proofs.Common.{◌≡◌, List, ℕ, refl, ◌∙◌, subst, arith}
 use Rattle.std.proofs.lemmas.Result.{err_from_is_err_and}
 use Rattle.gx_pages.proofs.Footprints.{cause_weaker, quiet_join}
 use Rattle.gx_gist_tree.specs.declared.change.Change.{Change}
-use Rattle.gx_gist_tree.specs.declared.change.Change.TheVariants.{Within, Split}
 use Rattle.gx_gist_tree.specs.Trees.{Node}
 use Rattle.gx_gist_tree.specs.Insertion.{IsInserted, IsReady}
 use Rattle.gx_gist_tree.proofs.ChildFacts.{inserted_same, ready_same}
