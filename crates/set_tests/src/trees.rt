@@ -4,8 +4,10 @@
 ghost use Rattle.std.specs.Prelude.{◌≡◌, OnOk, IfOk};
 
 use crate::seeded::Seeded;
+use gx_class_inet::InetClass;
 use gx_class_intset::IntClass;
 use gx_class_ltree::LtreeClass;
+use gx_class_range::RangeClass;
 use gx_class_sets::{HstoreClass, IntbigClass};
 use gx_gist::{GistClass, Test};
 use gx_gist_tree::Tree;
@@ -165,5 +167,17 @@ fn intervals_of_numbers(rt: HostRuntime) -> Result<(), Fail> {
 #[test]
 fn label_paths(rt: HostRuntime) -> Result<(), Fail> {
     assert_eq!(rt; wrong(rt.alloc(), LtreeClass::<8>)?, (None, None));
+    Ok(())
+}
+
+#[test]
+fn ranges(rt: HostRuntime) -> Result<(), Fail> {
+    assert_eq!(rt; wrong(rt.alloc(), RangeClass)?, (None, None));
+    Ok(())
+}
+
+#[test]
+fn networks(rt: HostRuntime) -> Result<(), Fail> {
+    assert_eq!(rt; wrong(rt.alloc(), InetClass)?, (None, None));
     Ok(())
 }
