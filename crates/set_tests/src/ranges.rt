@@ -27,11 +27,12 @@ fn range_at(alloc: Global, number: u32) -> Result<Range, PageError>
     if number % 13 == 0 {
         return range_of(alloc, "empty");
     }
-    let (low, len) = (number % 1009 * 31 % 1009, number % 60 + 1);
+    let low = number % 1009 * 31 % 1009;
+    let high = low + number % 60 + 1;
     let text = if number % 11 == 0 {
         format!(in alloc; "[{low},)")
     } else {
-        format!(in alloc; "[{low},1{low}{len})")
+        format!(in alloc; "[{low},{high})")
     };
     match text {
         Ok(text) => range_of(alloc, &text),
@@ -69,7 +70,7 @@ fn query_at(alloc: Global, place: usize) -> Result<Option<RangeQuery>, PageError
     let Some(op) = operator_at(place) else {
         return Ok(None);
     };
-    let operand = range_of(alloc, "[500,11000)")?;
+    let operand = range_of(alloc, "[400,460)")?;
     Ok(Some(RangeQuery::Range { op, operand }))
 }
 
