@@ -1,4 +1,5 @@
 pub mod Runs
+pub mod Held
 pub mod Texts
 pub mod Reading
 pub mod Arrays

@@ -1,7 +1,7 @@
 //! Formulas of numbers.
 
 ghost use Rattle.std.specs.Prelude.{◌≡◌, pos, IfOk};
-ghost use Rattle.gx_intarr.specs.Formula.{tree_of};
+ghost use Rattle.gx_intarr.specs.Formula.{tree_of, HasInt4};
 ghost use Rattle.gx_intarr.specs.Numbers.{TakesInt4, IsFarNumber};
 ghost use Rattle.gx_intarr.specs.Laws.{words_are};
 ghost use Rattle.gx_intarr.specs.Queries.{AnswersQuery};
@@ -71,7 +71,8 @@ impl QueryInt {
     /// fault by place is answered: TooDeep where a 65th parenthesis or `!` would stand open, or a 1,025th `&` or
     /// `|` comes; OutOfRange for a number outside of int4; NoValue for every other text that spells none.
     pub fn read(alloc: Global, text: &str) -> Result<QueryInt, ValueError>
-        ensures { AnswersQuery text.now result }
+        ensures answer { AnswersQuery text.now result }
+        ensures valid { IfOk result (λ query. HasInt4 (tree_of query.formula)) }
     {
         match read_formula::<IntFormula>(alloc, text.as_bytes()) {
             Ok(formula) => Ok(QueryInt { formula }),

@@ -1,6 +1,7 @@
 //! The elements of an array text.
 
 ghost use Rattle.std.specs.Prelude.{◌≡◌, ℕ, List, [], ◌∷◌, ◌++◌, length, IfOk, OnOk, OnErr, option_map, slice_get};
+ghost use Rattle.gx_intarr.specs.Held.{texts_of};
 ghost use Rattle.gx_intarr.specs.Texts.{AnswersTexts};
 ghost use Rattle.gx_intarr.specs.Reading.{AnswersElements};
 
@@ -9,16 +10,23 @@ use gx_bytes::{Bytes, NoMemory, ValueError, behind_byte, trimmed};
 use std::alloc::Global;
 use std::marker::Model;
 
-/// A list of texts. It keeps the allocator that it was made with.
+/// A list of texts. It keeps the allocator that it was made with, and up to one text takes no memory but its own.
 #[derive(Debug, Drop)]
 pub struct Texts {
-    texts: Vec<Bytes>,
+    alloc: Global,
+    held: Held,
+}
+
+#[derive(Debug, Drop)]
+enum Held {
+    Few(Option<Bytes>),
+    Many(Vec<Bytes>),
 }
 
 impl Model for Texts {
     ghost Value = { List (List ℕ) };
 
-    ghost view = { λ t. t.texts.items };
+    ghost view = { λ t. texts_of t.held };
 }
 
 impl Texts {
@@ -27,7 +35,8 @@ impl Texts {
         ensures { result ≡ [] }
     {
         Texts {
-            texts: Vec::new(alloc),
+            alloc,
+            held: Held::Few(None),
         }
     }
 
@@ -36,7 +45,18 @@ impl Texts {
         ensures ok { OnOk result (self.new ≡ self.old ++ text ∷ []) }
         ensures err { OnErr result (self.new ≡ self.old) }
     {
-        self.texts.push(text)?;
+        match &mut self.held {
+            Held::Few(held) if held.is_none() => *held = Some(text),
+            Held::Few(held) => {
+                let mut texts = Vec::with_capacity(self.alloc, 2)?;
+                if let Some(first) = held.take() {
+                    texts.push_reserved(first);
+                }
+                texts.push_reserved(text);
+                self.held = Held::Many(texts);
+            }
+            Held::Many(texts) => texts.push(text)?,
+        }
         Ok(())
     }
 
@@ -44,14 +64,14 @@ impl Texts {
     pub fn count(&self) -> usize
         ensures { result ≡ length self.now }
     {
-        self.texts.len()
+        self.as_slice().len()
     }
 
     /// The text at this place, counted from 0.
     pub fn text(&self, at: usize) -> Option<&[u8]>
         ensures { option_map (λ text. text.now) result ≡ slice_get self.now at }
     {
-        match self.texts.get(at) {
+        match self.as_slice().get(at) {
             Some(text) => Some(text.as_slice()),
             None => None,
         }
@@ -61,7 +81,10 @@ impl Texts {
     pub fn as_slice(&self) -> &[Bytes]
         ensures { result.now ≡ self.now }
     {
-        self.texts.as_slice()
+        match &self.held {
+            Held::Few(text) => text.as_slice(),
+            Held::Many(texts) => texts.as_slice(),
+        }
     }
 
     /// A copy of the texts.

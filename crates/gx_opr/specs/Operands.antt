@@ -46,7 +46,7 @@ IsRight operand.TextArray (texts ts) = Unit {0}
 IsRight operand.Lquery (lquery q) = IsLquery q
 IsRight operand.LqueryArray (lqueries qs) = AllByRecursion IsLquery qs
 IsRight operand.Ltxtquery (ltxtquery t) = Unit {0}
-IsRight operand.QueryInt (query_int t) = Unit {0}
+IsRight operand.QueryInt (query_int t) = numbers.HasInt4 t
 IsRight kind (datum d) = IsDatumOf (as_column kind) d
 IsRight _ _ = ⊥
 
