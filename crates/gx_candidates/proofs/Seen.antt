@@ -1,9 +1,13 @@
 -- The law of candidates, class by class.
-use Rattle.std.specs.Prelude.{◌≡◌, ◌==◌, ◌↔◌, IsTrue, ℕ, Bool, true, false, not, cond, ◌&&◌, ◌||◌, ◌⊎◌, List, [], ◌∷◌, None, Some, refl}
+use Rattle.std.specs.Prelude.{◌≡◌, ◌==◌, ◌↔◌, IsTrue, ℕ, Bool, true, false, not, cond, ◌&&◌, ◌||◌, ◌⊎◌, List, [], ◌∷◌, ◌++◌, ℤ, None, Some, refl}
 use Rattle.std.proofs.Common.{sym, ap, subst, ◌∙◌, inl, inr, true≢false, eqb-true}
 use Rattle.std.specs.List.{list_any}
 use Rattle.std.specs.Option.{option_map_or}
 use Rattle.serde_json.specs.Data.{Data}
+use Rattle.gx_formula.specs.Formula.{Tree, Word, Not, And, Or}
+use Rattle.gx_intarr.specs.Arrays.{IsArray}
+use Rattle.gx_intarr.specs.Formula.{HasInt4}
+use Rattle.gx_gin_arrays.specs.Numbers.{numbers_in}
 use Rattle.gx_scalar.specs.declared.scalar.Scalar.{Scalar}
 use Rattle.gx_scalar.specs.declared.scalar.ScalarKind.{ScalarKind}
 use Rattle.gx_scalar.specs.declared.scalar.ScalarKind.TheVariants as kinds
@@ -25,7 +29,7 @@ use Rattle.gx_opr.specs.declared.operand.Operand.{Operand}
 use Rattle.gx_opr.specs.declared.operand.Part.{Part}
 use Rattle.gx_opr.specs.declared.operand.Part.TheVariants as part
 use Rattle.gx_opr.specs.Decisions.{holds}
-use Rattle.gx_opr.specs.Operands.{Right, datum, right_of, IsRight}
+use Rattle.gx_opr.specs.Operands.{Right, datum, query_int, right_of, IsRight}
 use Rattle.gx_opr.specs.Operators.{Holds, HoldsOfScalar, HoldsOfJson}
 use Rattle.gx_candidates.specs.Candidates.{of_scalar, of_paths, candidate}
 use Rattle.gx_candidates.specs.Queries.{IsScalarRight, IsValidRight}
@@ -118,6 +122,20 @@ date_right _ s e r = never e
 uuid_right : (t : OperandType) (s : Scalar) → same_operand t operand.Uuid ≡ true → IsRight t (datum (scalar s)) → IsScalar kinds.Uuid s
 uuid_right operand.Uuid s e r = r
 uuid_right _ s e r = never e
+
+arrays_join : (xs ys : List ℤ) → IsArray xs → IsArray ys → IsArray (xs ++ ys)
+arrays_join [] ys h k = k
+arrays_join (x ∷ xs) ys h k = (h.0, arrays_join xs ys h.1 k)
+
+numbers_int4 : (t : Tree ℤ) → HasInt4 t → IsArray (numbers_in t)
+numbers_int4 (Word n) is = (is, tt)
+numbers_int4 (Not t) is = numbers_int4 t is
+numbers_int4 (And t u) is = arrays_join (numbers_in t) (numbers_in u) (numbers_int4 t is.0) (numbers_int4 u is.1)
+numbers_int4 (Or t u) is = arrays_join (numbers_in t) (numbers_in u) (numbers_int4 t is.0) (numbers_int4 u is.1)
+
+formula_right : (kind : OperandType) (t : Tree ℤ) → IsRight kind (query_int t) → IsArray (numbers_in t)
+formula_right operand.QueryInt t r = numbers_int4 t r
+formula_right _ t r = absurd r
 
 paths_any : (laws : Laws) (op : Operator) (v : Data) (p : Part) → not (not (same_operator op ops.Contains)) ≡ true → IsValidRight (right_of p) → HoldsOfJson op v (right_of p) → of_paths op (right_of p) v ≡ true
 paths_any laws ops.Contains v p has r h = paths_see v p r h
@@ -258,7 +276,7 @@ see_ArrayOps laws n _ op o v asked isv h = never asked.takes
 see_GinInt : Laws → (n : ℕ) (kind : ColumnType) (op : Operator) (o : Operand) (v : Datum) → IsAsked classes.GinInt n kind op o → IsValue kind v → holds op v (right_of o.part) ≡ true
     → candidate classes.GinInt n op (right_of o.part) v ≡ true
 unfolding candidate
-see_GinInt laws n column.Int4Array op o (int_array v) asked isv h = numbers_see op v o.part isv (valid_right laws o.kind (right_of o.part) asked.operand) asked.numbers ((laws.decided op (int_array v) (right_of o.part)).0 h)
+see_GinInt laws n column.Int4Array op o (int_array v) asked isv h = numbers_see op v o.part isv (valid_right laws o.kind (right_of o.part) asked.operand) (λ t e. formula_right o.kind t (subst (λ (q : Right). IsRight o.kind q) e asked.operand)) ((laws.decided op (int_array v) (right_of o.part)).0 h)
 see_GinInt laws n column.Int4Array op o _ asked isv h = absurd isv
 see_GinInt laws n _ op o v asked isv h = never asked.takes
 

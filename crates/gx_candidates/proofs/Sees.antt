@@ -61,11 +61,10 @@ use Rattle.gx_value.specs.declared.operators.Operator.TheVariants as ops
 use Rattle.gx_value.specs.declared.value.Value.TheVariants as value
 use Rattle.gx_opr.specs.declared.operand.Part.{Part}
 use Rattle.gx_opr.specs.declared.operand.Part.TheVariants as part
-use Rattle.gx_opr.specs.Operands.{right_of}
+use Rattle.gx_opr.specs.Operands.{query_int, right_of}
 use Rattle.gx_opr.specs.Operators.{scalar_op, range_op, inet_op, ltree_op, HoldsOfRange, HoldsOfInet, HoldsOfPath, HoldsOfHstore, HoldsOfArray, HoldsOfJson}
 use Rattle.gx_candidates.specs.Candidates.{isnt_no, range_passes, of_range, of_inet, path_passes, of_path, of_map, of_signed, of_set, of_array, formula_passes, of_numbers, words_pass, of_gin_map, of_document, of_paths}
 use Rattle.gx_candidates.specs.Queries.{IsValidRight}
-use Rattle.gx_candidates.specs.Laws.{HasInt4}
 
 isnt : (t : Test) → t ≢ No → isnt_no t ≡ true
 isnt No h = absurd (h refl)
@@ -182,8 +181,8 @@ of_formula f v ints isv h =
     formula_sees (record { formula = placed its f }) (int_tree f) v same
     (subst (λ (x : Tree ℤ). ArePlaced (items (numbers_in x)) (placed its f)) (sym same) (are_placed its f), subst (λ (x : Tree ℤ). IsArray (numbers_in x)) (sym same) ints) isv h
 
-pub numbers_see : (op : Operator) (v : List ℤ) (p : Part) → IsArray v → IsValidRight (right_of p) → HasInt4 (right_of p) → HoldsOfArray op v (right_of p) → of_numbers op (right_of p) v ≡ true
-numbers_see ops.Formula v (part.QueryInt q) isv r ints h = of_formula q.formula v ints isv h
+pub numbers_see : (op : Operator) (v : List ℤ) (p : Part) → IsArray v → IsValidRight (right_of p) → ((t : Tree ℤ) → right_of p ≡ query_int t → IsArray (numbers_in t)) → HoldsOfArray op v (right_of p) → of_numbers op (right_of p) v ≡ true
+numbers_see ops.Formula v (part.QueryInt q) isv r ints h = of_formula q.formula v (ints (int_tree q.formula) refl) isv h
 numbers_see ops.Formula v _ isv r ints h = absurd h
 numbers_see ops.Overlaps v p isv r ints h = array_sees ops.Overlaps v p isv r (λ e. cc) h
 numbers_see ops.Contains v p isv r ints h = array_sees ops.Contains v p isv r (λ e. cc) h

@@ -1,7 +1,5 @@
 -- An index that is asked loses no row: where the operator holds of a value, the value is a candidate.
 use Rattle.std.specs.Prelude.{◌≡◌, ℕ, true}
-use Rattle.gx_intarr.specs.Arrays.{IsArray}
-use Rattle.gx_gin_arrays.specs.Numbers.{numbers_in}
 use Rattle.gx_scalar.specs.declared.scalar.ScalarKind.{ScalarKind}
 use Rattle.gx_scalar.specs.declared.scalar.ScalarKind.TheVariants.{Int4, Int8, Text, Bytea, Date, Uuid}
 use Rattle.gx_value.specs.declared.classes.Class.{Class}
@@ -14,14 +12,9 @@ use Rattle.gx_value.specs.Classes.{supports}
 use Rattle.gx_value.specs.Values.{Datum, IsValue}
 use Rattle.gx_opr.specs.declared.operand.Operand.{Operand}
 use Rattle.gx_opr.specs.Decisions.{holds}
-use Rattle.gx_opr.specs.Operands.{Right, query_int, right_of, IsOperand}
+use Rattle.gx_opr.specs.Operands.{right_of, IsOperand}
 use Rattle.gx_candidates.specs.Candidates.{candidate}
 use Rattle.gx_candidates.specs.Queries.{IsScalarRight, IsValidRight, asks}
-
--- the numbers of a formula are int4, as those of the code's formulas are
-abbrev pub HasInt4 : Right → Type 0
-HasInt4 (query_int t) = IsArray (numbers_in t)
-HasInt4 _ = Unit {0}
 
 -- a question that an index of the class with this parameter over a column of the type answers
 pub record IsAsked (class : Class) (n : ℕ) (kind : ColumnType) (op : Operator) (o : Operand) : Type 0 where
@@ -30,7 +23,6 @@ pub record IsAsked (class : Class) (n : ℕ) (kind : ColumnType) (op : Operator)
   pub supports : supports class op o.kind ≡ true
   pub listed : is_operand kind op o.kind ≡ true
   pub operand : IsOperand o
-  pub numbers : HasInt4 (right_of o.part)
 
 abbrev pub CandidatesSee : Type 0
 CandidatesSee =

@@ -11,13 +11,13 @@ use Rattle.gx_value.specs.Values.{Datum, IsField, IsRow}
 use Rattle.gx_opr.specs.Decisions.{holds}
 use Rattle.gx_opr.specs.Operands.{right_of}
 use Rattle.gx_opr.specs.declared.operand.Operand as code
-use Rattle.gx_candidates.specs.Laws.{CandidatesSee, HasInt4}
+use Rattle.gx_candidates.specs.Laws.{CandidatesSee}
 use Rattle.gx_model.specs.Database.{Index, Table, IsIndexOn}
 use Rattle.gx_model.specs.Plans.{found_by, is_candidate, is_found, is_found_of_null}
 use Rattle.gx_model.specs.Truth as model
 use Rattle.gx_model.specs.Truth.{and_of, field_at, is_true, or_of, truth, truth_of, truth_of_atom, truth_of_null}
 use Rattle.gx_plan.specs.Bounds.{bound_of, kinds_of, operand_of, IsAsked, IsBound}
-use Rattle.gx_plan.specs.Losing.{AreOn, HasNumbers, LosesNone}
+use Rattle.gx_plan.specs.Losing.{AreOn, LosesNone}
 use Rattle.gx_plan.specs.declared.bound.Bound.{Bound}
 use Rattle.gx_plan.specs.declared.bound.Bound.TheVariants as bound
 
@@ -78,20 +78,20 @@ of_bool false is = cc
 
 module _ (see : CandidatesSee) (indexes : List Index) (t : Table) (on : AreOn t indexes) where
   -- the index's class rules no value out of which the operator holds
-  sees : (i : Index) (op : Operator) (operand : code.Operand) → HasInt4 (right_of operand.part) → supports i.class op operand.kind ≡ true → IsIndexOn i t
+  sees : (i : Index) (op : Operator) (operand : code.Operand) → supports i.class op operand.kind ≡ true → IsIndexOn i t
       → (field : Option Datum) → At t.columns i.column (IsAsked op (Some (operand_of operand))) (λ c. takes i.class c.kind ≡ true) field
       → is_true (truth_of_atom op field (Some (operand_of operand))) ≡ true → is_candidate i op (operand_of operand) field ≡ true
-  sees i op operand numbers supports is_on None here is = cc
-  sees i op operand numbers supports is_on (Some value) here is =
+  sees i op operand supports is_on None here is = cc
+  sees i op operand supports is_on (Some value) here is =
       see i.class i.parameter here.column.kind op operand value
-      (record { takes = here.indexed; allows = is_on.parameter; supports = supports; listed = here.asked.0; operand = here.asked.1; numbers = numbers })
+      (record { takes = here.indexed; allows = is_on.parameter; supports = supports; listed = here.asked.0; operand = here.asked.1 })
       here.valid (of_bool (holds op value (right_of operand.part)) is)
 
-  atom : (place : ℕ) (op : Operator) (operand : Option code.Operand) → HasNumbers (bound.Atom place op operand) → IsBound (kinds_of t.columns) (bound_of (bound.Atom place op operand))
+  atom : (place : ℕ) (op : Operator) (operand : Option code.Operand) → IsBound (kinds_of t.columns) (bound_of (bound.Atom place op operand))
       → (fields : List (Option Datum)) → IsRow (kinds_of t.columns) fields → is_true (truth (bound_of (bound.Atom place op operand)) fields) ≡ true
       → is_found indexes t.name (bound_of (bound.Atom place op operand)) fields ≡ true
-  atom place op None numbers asked fields row is = refl
-  atom place op (Some operand) numbers asked fields row is = by_first passes (λ i. bytes_eq i.table t.name ≡ true → IsIndexOn i t) so each indexes on
+  atom place op None asked fields row is = refl
+  atom place op (Some operand) asked fields row is = by_first passes (λ i. bytes_eq i.table t.name ≡ true → IsIndexOn i t) so each indexes on
     where
       passes : Index → Bool
       passes i = bytes_eq i.table t.name && i.column == place && supports i.class op operand.kind
@@ -107,7 +107,7 @@ module _ (see : CandidatesSee) (indexes : List Index) (t : Table) (on : AreOn t 
           let index = is_on stood.0 in
           let column = subst (λ (n : ℕ). IsSomeAnd (slice_get t.columns n) (λ c. takes i.class c.kind ≡ true)) here index.column in
           let stands = at t.columns place (IsAsked op (Some (operand_of operand))) (λ c. takes i.class c.kind ≡ true) fields asked column row in
-          sees i op operand numbers answers.1 index (field_at fields place)
+          sees i op operand answers.1 index (field_at fields place)
           (record { column = stands.column; asked = stands.asked; indexed = stands.indexed; valid = stands.valid }) is
 
   null : (place : ℕ) (negated : Bool) (field : Option Datum) → is_true (truth_of_null field negated) ≡ true → is_found_of_null indexes t.name place negated field ≡ true
@@ -115,17 +115,17 @@ module _ (see : CandidatesSee) (indexes : List Index) (t : Table) (on : AreOn t 
   null place false field is =
       by_first (λ i. bytes_eq i.table t.name && i.column == place && true) (λ i. bytes_eq i.table t.name ≡ true → IsIndexOn i t) (λ i. is_none field) (λ i passes on. of_bool (is_none field) is) indexes on
 
-  loses : (condition : Bound) → IsBound (kinds_of t.columns) (bound_of condition) → HasNumbers condition → (fields : List (Option Datum)) → IsRow (kinds_of t.columns) fields
+  loses : (condition : Bound) → IsBound (kinds_of t.columns) (bound_of condition) → (fields : List (Option Datum)) → IsRow (kinds_of t.columns) fields
       → is_true (truth (bound_of condition) fields) ≡ true → is_found indexes t.name (bound_of condition) fields ≡ true
-  loses (bound.And' p a q b) asked numbers fields row is =
+  loses (bound.And' p a q b) asked fields row is =
       let sides = and_true (truth (bound_of a) fields) (truth (bound_of b) fields) is in
-      each_true (is_found indexes t.name (bound_of a) fields) (is_found indexes t.name (bound_of b) fields) (loses a asked.0 numbers.0 fields row sides.0) (loses b asked.1 numbers.1 fields row sides.1)
-  loses (bound.Or' p a q b) asked numbers fields row is =
+      each_true (is_found indexes t.name (bound_of a) fields) (is_found indexes t.name (bound_of b) fields) (loses a asked.0 fields row sides.0) (loses b asked.1 fields row sides.1)
+  loses (bound.Or' p a q b) asked fields row is =
       some_true (is_found indexes t.name (bound_of a) fields) (is_found indexes t.name (bound_of b) fields)
-      (⊎_elim (λ left. inl (loses a asked.0 numbers.0 fields row left)) (λ right. inr (loses b asked.1 numbers.1 fields row right)) (or_true (truth (bound_of a) fields) (truth (bound_of b) fields) is))
-  loses (bound.Not' p a) asked numbers fields row is = refl
-  loses (bound.Atom place op operand) asked numbers fields row is = atom place op operand numbers asked fields row is
-  loses (bound.IsNull place negated) asked numbers fields row is = null place negated (field_at fields place) is
+      (⊎_elim (λ left. inl (loses a asked.0 fields row left)) (λ right. inr (loses b asked.1 fields row right)) (or_true (truth (bound_of a) fields) (truth (bound_of b) fields) is))
+  loses (bound.Not' p a) asked fields row is = refl
+  loses (bound.Atom place op operand) asked fields row is = atom place op operand asked fields row is
+  loses (bound.IsNull place negated) asked fields row is = null place negated (field_at fields place) is
 
 pub loses_none : CandidatesSee → LosesNone
-loses_none see indexes t condition on asked numbers fields row is = loses see indexes t on condition asked numbers fields row is
+loses_none see indexes t condition on asked fields row is = loses see indexes t on condition asked fields row is
