@@ -86,6 +86,22 @@ behind_fits b w n p q small =
 equal_test : (a b : ℕ) → a ≡ b → (a == b) ≡ true
 equal_test a b e = grind (arith, nat_tests, e)
 
+-- more first bits than are shared differ
+most_at : (w x y n m : ℕ) (b : Bool) → (x / 2 ^ (w - suc n) == y / 2 ^ (w - suc n)) ≡ b → (shared w x y n < m → m ≤ n → x / 2 ^ (w - m) ≡ y / 2 ^ (w - m) → ⊥)
+    → (if b then suc n else shared w x y n) < m → m ≤ suc n → x / 2 ^ (w - m) ≡ y / 2 ^ (w - m) → ⊥
+most_at w x y n m true t h p q e = absurd (omega (arith, p, q))
+most_at w x y n m false t h p q e = elim (cases_lt n m) [
+  | inl above ↦ (
+      let last : m ≡ suc n = omega (arith, above, q) in
+      let P : ℕ → Type 0 = λ k. x / 2 ^ (w - k) ≡ y / 2 ^ (w - k) in
+      true≢false (sym (equal_test (x / 2 ^ (w - suc n)) (y / 2 ^ (w - suc n)) (subst P last e)) ∙ t))
+  | inr below ↦ h p below e
+]
+
+pub shared_most : (w x y n m : ℕ) → shared w x y n < m → m ≤ n → x / 2 ^ (w - m) ≡ y / 2 ^ (w - m) → ⊥
+shared_most w x y zero m p q e = absurd (omega (arith, p, q))
+shared_most w x y (suc n) m p q e = most_at w x y n m (x / 2 ^ (w - suc n) == y / 2 ^ (w - suc n)) refl (shared_most w x y n m) p q e
+
 other_test : (a b : ℕ) → (a ≡ b → ⊥) → (t : Bool) → (a == b) ≡ t → t ≡ false
 other_test a b h true e = let same : a ≡ b = grind (arith, nat_tests, e) in absurd (h same)
 other_test a b h false e = refl

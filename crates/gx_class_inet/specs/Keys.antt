@@ -1,5 +1,5 @@
 -- Keys: what the addresses below an item have in common.
-use Rattle.std.specs.Prelude.{◌≡◌, ℕ, zero, suc, ◌-◌, ◌*◌, ◌/◌, ◌^◌, ◌<◌, ◌≤◌, ◌==◌, min, Bool, List, [], ◌∷◌, if◌then◌else◌}
+use Rattle.std.specs.Prelude.{◌≡◌, ℕ, zero, suc, ◌-◌, ◌*◌, ◌/◌, ◌^◌, ◌<◌, ◌≤◌, ◌==◌, min, List, [], ◌∷◌, if◌then◌else◌}
 use Rattle.std.specs.Bool.{beq}
 use Rattle.gx_inet.specs.declared.inet.Inet.{Inet}
 use Rattle.gx_inet.specs.Value.{width}

@@ -2,12 +2,11 @@
 use Rattle.std.specs.Prelude.{◌≡◌, ◌≢◌, ℕ, ◌-◌, ◌*◌, ◌/◌, ◌^◌, ◌<◌, ◌≤◌, ◌==◌, nat_lt, nat_le, min, Bool, true, false, ◌&&◌, if◌then◌else◌, refl}
 use Rattle.std.proofs.Common.{sym, ap, subst, ◌∙◌, arith, true≢false}
 use Rattle.std.specs.Bool.{beq}
-use Rattle.std.specs.Ordering.{nat_cmp, bool_cmp, is_eq, is_ne, is_lt, is_le, is_gt, is_ge, ordering_then}
+use Rattle.std.specs.Ordering.{nat_cmp, is_eq, is_lt, is_le, is_gt, is_ge, ordering_then}
 use Rattle.std.specs.declared.cmp.Ordering.{Ordering}
 use Rattle.std.specs.declared.cmp.Ordering.TheVariants.{Less, Equal, Greater}
 use Rattle.std.proofs.lemmas.Bool.Decides.{nat_tests}
 use Rattle.std.proofs.lemmas.Cmp.{ranked}
-use Rattle.gx_gist.specs.declared.test.Test.{Test}
 use Rattle.gx_gist.specs.declared.test.Test.TheVariants.{No, Maybe, Yes}
 use Rattle.gx_inet.specs.declared.inet.Inet.{Inet}
 use Rattle.gx_inet.specs.declared.inet.InetOp.{InetOp}
@@ -19,7 +18,7 @@ use Rattle.gx_inet.proofs.DecisionLemmas.{holds-Decides}
 use Rattle.gx_class_inet.specs.declared.key.Net.{Net}
 use Rattle.gx_class_inet.specs.declared.key.InetKey.{InetKey}
 use Rattle.gx_class_inet.specs.declared.key.InetKey.TheVariants.{Mixed, Family}
-use Rattle.gx_class_inet.specs.Keys.{first, IsNet, IsKey, leaf_net, leaf_key, shared, common_of, cut_at, joined_nets, joined, IsOverNet, IsOver}
+use Rattle.gx_class_inet.specs.Keys.{first, IsNet, IsKey, leaf_net, leaf_key, common_of, cut_at, joined_nets, joined, IsOverNet, IsOver}
 use Rattle.gx_class_inet.specs.Bits.{prefix, prefix_le, cut_front, cut_small, shared_few, shared_same}
 use Rattle.gx_class_inet.specs.Tests.{leaf_answer, net_may, family_may, key_may, inner_answer}
 

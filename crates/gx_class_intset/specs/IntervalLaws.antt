@@ -1,6 +1,6 @@
 -- What operations on lists of intervals keep.
 use Rattle.std.specs.Prelude.{◌≡◌, ℕ, zero, suc, ◌+◌, ◌-◌, ◌<◌, ◌≤◌, nat_lt, Bool, true, false, ◌&&◌, ◌||◌, ℤ, pos, int_le, int_lt, ◌≤ℤ◌, ◌<ℤ◌, ◌+ℤ◌, List, [], ◌∷◌, length, slice_index_or, if◌then◌else◌, refl}
-use Rattle.std.proofs.Common.{sym, arith, true≢false}
+use Rattle.std.proofs.Common.{sym, ap, ◌∙◌, arith, true≢false}
 use Rattle.std.proofs.lemmas.Int.{ints, clamps}
 use Rattle.gx_intarr.specs.Arrays.{greatest}
 use Rattle.gx_class_intset.specs.declared.interval.Interval.{Interval}
@@ -141,6 +141,72 @@ pub together_right : (b a : List Interval) (n : ℤ) → has b n ≡ true → ha
 together_right [] a n e = absurd (true≢false (sym e))
 together_right (i ∷ is) a n e =
     or_cases (within n i) (has is n) (has (together (put i a) is) n ≡ true) (λ here. together_left is (put i a) n (put_new a n i here)) (λ there. together_right is (put i a) n there) e
+
+-- No number is added: overlapping intervals have those of their hull.
+gt_of : (m n : ℤ) → int_le m n ≡ false → n <ℤ m
+gt_of m n e = grind (arith, ints)
+
+hull_other : (n : ℤ) (i j : Interval) (b : Bool) → int_le i.least n ≡ b → (b && int_le n i.greatest) ≡ false → j.least ≤ℤ i.greatest → i.least ≤ℤ j.greatest → (hull i j).least ≤ℤ n
+    → n ≤ℤ (hull i j).greatest → (j.least ≤ℤ n) × (n ≤ℤ j.greatest)
+hull_other n i j true t e p q low high =
+    let from = le_of i.least n t in
+    let past = gt_of n i.greatest e in
+    (omega (arith, ints, clamps), omega (arith, ints, clamps))
+hull_other n i j false t e p q low high =
+    let before = gt_of i.least n t in
+    (omega (arith, ints, clamps), omega (arith, ints, clamps))
+
+or_other : (a b : Bool) → (a ≡ false → b ≡ true) → (a || b) ≡ true
+or_other true b f = refl
+or_other false b f = f refl
+
+hull_only : (n : ℤ) (i j : Interval) → int_lt i.greatest j.least ≡ false → int_lt j.greatest i.least ≡ false → within n (hull i j) ≡ true → (within n i || within n j) ≡ true
+hull_only n i j p q e =
+    let w = within_of n (hull i j) e in
+    or_other (within n i) (within n j)
+    (λ out. let at = hull_other n i j (int_le i.least n) refl out (ge_of i.greatest j.least p) (ge_of j.greatest i.least q) w.0 w.1 in of_within n j at.0 at.1)
+
+both_ways : (a b : Bool) → (a ≡ true → b ≡ true) → (b ≡ true → a ≡ true) → a ≡ b
+both_ways true b f g = sym (f refl)
+both_ways false true f g = g refl
+both_ways false false f g = refl
+
+hull_has : (n : ℤ) (i j : Interval) → int_lt i.greatest j.least ≡ false → int_lt j.greatest i.least ≡ false → within n (hull i j) ≡ (within n i || within n j)
+hull_has n i j p q =
+    both_ways (within n (hull i j)) (within n i || within n j) (hull_only n i j p q)
+    (or_cases (within n i) (within n j) (within n (hull i j) ≡ true) (hull_left n i j) (hull_right n i j))
+
+or_swap : (a b c : Bool) → (a || (b || c)) ≡ (b || (a || c))
+or_swap true true c = refl
+or_swap true false c = refl
+or_swap false b c = refl
+
+or_assoc : (a b c : Bool) → ((a || b) || c) ≡ (a || (b || c))
+or_assoc true b c = refl
+or_assoc false b c = refl
+
+put_has_at : (n : ℤ) (i j : Interval) (js : List Interval) (b c : Bool) → int_lt i.greatest j.least ≡ b → int_lt j.greatest i.least ≡ c
+    → ((k : Interval) → has (put k js) n ≡ (within n k || has js n)) → has (if b then i ∷ j ∷ js else (if c then j ∷ put i js else put (hull i j) js)) n ≡ (within n i || has (j ∷ js) n)
+put_has_at n i j js true c p q more = refl
+put_has_at n i j js false true p q more = ap (λ t. within n j || t) (more i) ∙ or_swap (within n j) (within n i) (has js n)
+put_has_at n i j js false false p q more =
+    more (hull i j) ∙ ap (λ t. t || has js n) (hull_has n i j p q) ∙ or_assoc (within n i) (within n j) (has js n)
+
+put_has : (is : List Interval) (n : ℤ) (i : Interval) → has (put i is) n ≡ (within n i || has is n)
+put_has [] n i = refl
+put_has (j ∷ js) n i = put_has_at n i j js (int_lt i.greatest j.least) (int_lt j.greatest i.least) refl refl (put_has js n)
+
+or_none : (a : Bool) → a ≡ (a || false)
+or_none true = refl
+or_none false = refl
+
+together_step : (a b c : Bool) → ((a || b) || c) ≡ (b || (a || c))
+together_step a b c = or_assoc a b c ∙ or_swap a b c
+
+pub together_has : (b a : List Interval) (n : ℤ) → has (together a b) n ≡ (has a n || has b n)
+together_has [] a n = or_none (has a n)
+together_has (i ∷ is) a n =
+    together_has is (put i a) n ∙ ap (λ t. t || has is n) (put_has a n i) ∙ together_step (within n i) (has a n) (has is n)
 
 -- Neighbours joined: they still rise and are disjoint, have what they had, and are one less.
 pub join_above : (is : List Interval) (k : ℕ) (f : ℤ) → AreAbove f is → AreAbove f (join_at k is)

@@ -1,12 +1,12 @@
 -- Which neighbours are joined: those with the least gaps.
-use Rattle.std.specs.Prelude.{◌≡◌, ℕ, zero, suc, ◌+◌, ◌-◌, ◌<◌, ◌≤◌, nat_lt, Bool, true, false, List, [], ◌∷◌, ◌++◌, length, slice_get, slice_index_or, get_or, Some, IsPermutation, if◌then◌else◌, refl}
+use Rattle.std.specs.Prelude.{◌≡◌, ℕ, zero, suc, ◌-◌, ◌<◌, ◌≤◌, nat_lt, Bool, true, false, List, [], ◌∷◌, ◌++◌, length, slice_get, slice_index_or, Some, IsPermutation, if◌then◌else◌, refl}
 use Rattle.std.specs.List.{AllByRecursion}
-use Rattle.std.proofs.Common.{sym, ap, ◌∙◌, subst, arith}
+use Rattle.std.proofs.Common.{sym, ap, subst, arith}
 use Rattle.std.proofs.lemmas.Bool.Decides.{nat_tests}
 use Rattle.std.proofs.lemmas.Option.{get_or_from_slice_get, slice_get-get_or}
 use Rattle.std.proofs.lemmas.List.Sorted.{IsPermutation-refl, IsPermutation-cons, IsPermutation-trans, IsPermutation-append_left}
 use Rattle.gx_class_intset.specs.declared.interval.Interval.{Interval}
-use Rattle.gx_class_intset.specs.Intervals.{gap, gaps, first_least, across, join_at, join_closest, joins, reduced}
+use Rattle.gx_class_intset.specs.Intervals.{gap, gaps, first_least, join_at, join_closest, joins, reduced}
 use Rattle.gx_class_intset.specs.IntervalLaws.{least_in, length-gaps, length-joins}
 
 -- Each gap was joined or is there still, and none that was joined is greater than one that is there.

@@ -15,4 +15,4 @@ mod tests_of_keys;
 
 pub use class::IntClass;
 pub use interval::{IntKey, Interval, Intervals};
-pub use laws::least_gaps_are_joined;
+pub use laws::{least_gaps_are_joined, no_number_is_added};
