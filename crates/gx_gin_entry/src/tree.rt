@@ -173,6 +173,34 @@ impl EntryTree {
         Ok(())
     }
 
+    /// Puts a posting at a key in the place of the one that it has. False where the key isn't there, or has a shorter posting. No page is
+    /// taken or given.
+    pub fn replace<P: Pages>(
+        &mut self,
+        alloc: Global,
+        pages: &mut P,
+        key: &[u8],
+        posting: &[u8],
+    ) -> Result<bool, PageError>
+        requires key { length key.now ≤ 1901 }
+        requires posting { length posting.now ≤ 513 }
+        ensures replaced { IfOk result (λ done. done ≡ true → P.tells → (list : List Entry) (feet free : List ℕ) → HoldsEntries P.Pages pages.old self.old.page list feet free
+            → (later : List Entry) × (stand : List ℕ) × HoldsEntries P.Pages pages.new self.old.page later stand free × KeepsPages P.Pages pages.old pages.new feet free stand free
+            × IsPut key.now posting.now list later) }
+        ensures shorter { IfOk result (λ done. done ≡ false → P.tells → (list : List Entry) (feet free : List ℕ) → HoldsEntries P.Pages pages.old self.old.page list feet free → AreShorter list key.now posting.now) }
+        ensures same { self.new ≡ self.old }
+        ensures count { P.count pages.new ≡ P.count pages.old }
+        ensures cause { IfErr result (HasCause (P.faults pages.old) (P.faults pages.new)
+            (λ at expected found. P.tells → HoldsNoEntries P.Pages pages.old self.old.page) (λ _. ⊥) (Unit {0})) }
+        ensures heap { IsSound result → P.heap_fetches pages.new ≡ P.heap_fetches pages.old }
+        ensures quiet { StaysQuiet P.Pages pages.old pages.new }
+    {
+        let Ok(change) = Putting::new(alloc, key, posting) else {
+            return Err(PageError::Memory);
+        };
+        put_in_place(pages, self.page, &change)
+    }
+
     /// Takes a key out. No page is taken or given.
     pub fn remove<P: Pages>(&mut self, pages: &mut P, key: &[u8]) -> Result<(), PageError>
         ensures removed { OnOk result (P.tells → (list : List Entry) (feet free : List ℕ) → HoldsEntries P.Pages pages.old self.old.page list feet free

@@ -1,9 +1,9 @@
 -- Rows and their bytes.
-use Rattle.std.proofs.Common.{◌≡◌, ◌==◌, true, false, length, length-append, ℕ, ◌+◌, ◌-◌, ◌<◌, ◌≤◌, ◌^◌, List, [], ◌∷◌, ◌++◌, Option, IfSome, refl, sym, ◌∙◌, ap, ap₂, subst, arith, ◌⊎◌, append_assoc, append-nil}
+use Rattle.std.proofs.Common.{◌≡◌, ◌==◌, true, false, length, length-append, ℕ, ◌+◌, ◌-◌, ◌<◌, ◌≤◌, ◌^◌, List, [], ◌∷◌, ◌++◌, Option, Some, None, IfSome, IfNone, refl, sym, ◌∙◌, ap, ap₂, subst, arith, ◌⊎◌, append_assoc, append-nil}
 use Rattle.std.specs.List.{AllByRecursion}
 use Rattle.std.proofs.lemmas.Bool.{false≢true, eqb-true}
 use Rattle.gx_bytes.specs.Varints.{varint_bytes, IsVarint}
-use Rattle.gx_bytes.proofs.Spellings.{varint_is, varints_same}
+use Rattle.gx_bytes.proofs.Spellings.{varint_is, varint_short, varints_same}
 use Rattle.gx_pages.specs.declared.row.RowRef.{RowRef}
 use Rattle.gx_pages.specs.Rows.{AreBelow, IsRising}
 use Rattle.gx_pages.proofs.Rising.{rising_push}
@@ -324,3 +324,81 @@ some_left rest some none = false≢true (sym some ∙ ap (λ (l : List ℕ). len
 pub none_left : (rest : List ℕ) → (length rest == 0) ≡ true → rest ≡ []
 none_left [] none = refl
 none_left (c ∷ cs) none = let e : length (c ∷ cs) ≡ 0 = eqb-true (length (c ∷ cs)) 0 none in absurd (omega (arith, e))
+
+-- Some rows were passed, the last of them is this one, and the rest of the bytes stands behind theirs.
+pub record HasPassed (bytes : List ℕ) (last : Option RowRef) (before : ℕ) (rest : List ℕ) : Type 0 where
+  pub rows : List RowRef
+  pub passed : Passed bytes [] rows before rest
+  pub is : last ≡ last_of rows
+
+pub below_last : (rows : List RowRef) (number : ℕ) → AreBelow rows number → IfSome (last_of rows) (λ last. last.number < number)
+below_last [] number below = tt
+below_last (row ∷ []) number below = below.0
+below_last (row ∷ other ∷ rows) number below = below_last (other ∷ rows) number below.1
+
+last_pushed : (rows : List RowRef) (row : RowRef) → last_of (rows ++ row ∷ []) ≡ Some row
+last_pushed [] row = refl
+last_pushed (first ∷ []) row = refl
+last_pushed (first ∷ other ∷ rows) row = last_pushed (other ∷ rows) row
+
+no_last : (rows : List RowRef) → None ≡ last_of rows → rows ≡ []
+no_last [] none = refl
+no_last (row ∷ []) none = let e : None ≡ Some row = none in cc
+no_last (row ∷ other ∷ rows) none = let e : other ∷ rows ≡ [] = no_last (other ∷ rows) none in cc
+
+-- before any row
+pub passed_none : (bytes : List ℕ) → HasPassed bytes None 0 bytes
+passed_none bytes = record { rows = []; passed = record { rows = []; added = refl; rise = tt; fit = tt; from = tt; last = refl; are = refl }; is = refl }
+
+-- a row more
+pub passed_more : (bytes : List ℕ) (last : Option RowRef) (before : ℕ) (rest after : List ℕ) (row : RowRef) → HasPassed bytes last before rest → Fits row → before ≤ row.number → rest ≡ entry_bytes before row ++ after
+    → IfSome last (λ l. l.number < row.number) → HasPassed bytes (Some row) row.number after
+passed_more bytes last before rest after row p fits from is above =
+    let P : Option RowRef → Type 0 = λ o. IfSome o (λ l. l.number < row.number) in
+    record {
+      rows = p.rows ++ row ∷ [];
+      passed = passes_row bytes [] p.rows (p.rows ++ row ∷ []) before rest after row p.passed fits from is (last_above p.rows row.number p.passed.rise (subst P p.is above)) refl;
+      is = sym (last_pushed p.rows row);
+    }
+
+-- where no row comes next, or one that isn't above the last, the bytes spell nothing
+pub none_behind : (bytes : List ℕ) (last : Option RowRef) (before : ℕ) (rest : List ℕ) → HasPassed bytes last before rest → (rest ≡ [] → ⊥)
+    → ((row : RowRef) (after : List ℕ) → Fits row → before ≤ row.number → rest ≡ entry_bytes before row ++ after → ⊥) → (all : List RowRef) → Spells bytes all → all ≡ []
+none_behind bytes last before rest p some none all s = absurd (none_spelled bytes [] p.rows before rest p.passed some none all s)
+
+pub not_behind : (bytes : List ℕ) (last : Option RowRef) (before : ℕ) (rest after : List ℕ) (row : RowRef) → HasPassed bytes last before rest → (rest ≡ [] → ⊥) → before ≤ row.number → rest ≡ entry_bytes before row ++ after
+    → (IfSome last (λ l. l.number < row.number) → ⊥) → (all : List RowRef) → Spells bytes all → all ≡ []
+not_behind bytes last before rest after row p some from is above all s =
+    let P : Option RowRef → Type 0 = λ o. IfSome o (λ l. l.number < row.number) in
+    absurd (not_rising bytes [] p.rows before rest after row p.passed some from is (λ below. above (subst P (sym p.is) (below_last p.rows row.number below))) all s s.rise)
+
+-- at the end of the bytes
+pub last_some : (bytes : List ℕ) (last : Option RowRef) (before : ℕ) (rest : List ℕ) → HasPassed bytes last before rest → rest ≡ [] → IfSome last (λ l. (rows : List RowRef) × Spells bytes rows × (last_of rows ≡ Some l))
+last_some bytes None before rest p none = tt
+last_some bytes (Some l) before rest p none =
+    let all = all_passed bytes [] p.rows before rest p.passed none in
+    (all.0, all.1, ap (λ (rows : List RowRef). last_of rows) (sym all.2) ∙ sym p.is)
+
+pub last_none : (bytes : List ℕ) (last : Option RowRef) (before : ℕ) (rest : List ℕ) → HasPassed bytes last before rest → rest ≡ [] → IfNone last ((rows : List RowRef) → Spells bytes rows → rows ≡ [])
+last_none bytes None before rest p none =
+    let all = all_passed bytes [] p.rows before rest p.passed none in
+    λ rows s. one_spelled bytes rows all.0 s all.1 ∙ sym all.2 ∙ no_last p.rows p.is
+last_none bytes (Some l) before rest p none = tt
+
+-- three numbers take 30 bytes at most
+pub few_pushed : (old new : List ℕ) (before : ℕ) (row : RowRef) → Fits row → new ≡ old ++ entry_bytes before row → length new ≤ length old + 30
+few_pushed old new before row fits is =
+    let a = varint_short (row.number - before) (varint_bytes (row.number - before)) (let f = fits.0 in omega (arith, f)) (varint_is (row.number - before)) in
+    let b = varint_short row.page (varint_bytes row.page) fits.1 (varint_is row.page) in
+    let d = varint_short row.slot (varint_bytes row.slot) (let f = fits.2 in omega (arith, f)) (varint_is row.slot) in
+    let e = ap (λ (l : List ℕ). length l) is in
+    omega (
+      arith,
+      a,
+      b,
+      d,
+      e,
+      length-append old (entry_bytes before row),
+      length-append (varint_bytes (row.number - before) ++ varint_bytes row.page) (varint_bytes row.slot),
+      length-append (varint_bytes (row.number - before)) (varint_bytes row.page),
+    )

@@ -6,5 +6,5 @@ mod read;
 mod write;
 
 pub use laws::one_list;
-pub use read::read_posting;
+pub use read::{last_posting, read_posting};
 pub use write::push_posting;

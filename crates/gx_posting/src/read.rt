@@ -1,10 +1,10 @@
 //! The rows that bytes spell.
 
-ghost use Rattle.std.specs.Prelude.{◌≡◌, ◌≢◌, ℕ, ◌<◌, ◌≤◌, ◌^◌, List, ◌++◌, Bool, true, false, IfOk, OnErr, MatchOption};
+ghost use Rattle.std.specs.Prelude.{◌≡◌, ◌≢◌, ◌↔◌, ℕ, ◌<◌, ◌≤◌, ◌^◌, List, [], ◌++◌, Bool, true, false, Some, IsTrue, IfOk, IfSome, IfNone, OnErr, MatchOption};
 ghost use Rattle.gx_bytes.specs.Varints.{varint_bytes};
 ghost use Rattle.gx_pages.specs.declared.row.RowRef.{RowRef};
 ghost use Rattle.gx_pages.specs.Rows.{IsRising};
-ghost use Rattle.gx_posting.specs.Postings.{Fits, Spells, entry_bytes};
+ghost use Rattle.gx_posting.specs.Postings.{Fits, Spells, entry_bytes, last_of};
 
 use gx_bytes::{NoMemory, varint};
 use gx_pages::{Bitmap, RowRef};
@@ -46,6 +46,38 @@ fn push_rows(bytes: &[u8], to: &mut Bitmap) -> Result<bool, NoMemory>
         rest = after;
     }
     Ok(true)
+}
+
+/// The last row of the list that the bytes spell. None where they spell none, or the empty one. It takes no memory.
+pub fn last_posting(bytes: &[u8]) -> Option<RowRef>
+    ensures some { IfSome result (λ last. (rows : List RowRef) × Spells bytes.now rows × (last_of rows ≡ Some last)) }
+    ensures none { IfNone result ((rows : List RowRef) → Spells bytes.now rows → rows ≡ []) }
+{
+    let mut rest = bytes;
+    let mut before = 0;
+    let mut last = None;
+    'rows: while !rest.is_empty() {
+        let Some((row, after)) = take_row(rest, before) else {
+            return None;
+        };
+        if !is_behind(last, row.number) {
+            return None;
+        }
+        last = Some(row);
+        before = row.number;
+        rest = after;
+    }
+    last
+}
+
+/// Tells whether the number is above that of the row, where there is one.
+fn is_behind(last: Option<RowRef>, number: u64) -> bool
+    ensures { IsTrue result ↔ IfSome last (λ before. before.number < number) }
+{
+    match last {
+        Some(before) => before.number < number,
+        None => true,
+    }
 }
 
 /// The row at the front, behind one of this number, and the bytes behind it.

@@ -1,6 +1,6 @@
 //! A row at the end of a posting list.
 
-ghost use Rattle.std.specs.Prelude.{◌≡◌, ◌-◌, ◌^◌, ◌<◌, ◌≤◌, List, [], ◌∷◌, ◌++◌, IfSome, OnOk, OnErr};
+ghost use Rattle.std.specs.Prelude.{◌≡◌, ℕ, ◌+◌, ◌-◌, ◌^◌, ◌<◌, ◌≤◌, List, [], ◌∷◌, ◌++◌, length, IfSome, OnOk, OnErr};
 ghost use Rattle.gx_bytes.specs.Varints.{varint_bytes, Extends};
 ghost use Rattle.gx_pages.specs.declared.row.RowRef.{RowRef};
 ghost use Rattle.gx_posting.specs.Postings.{Spells, entry_bytes, number_of, last_of};
@@ -8,12 +8,14 @@ ghost use Rattle.gx_posting.specs.Postings.{Spells, entry_bytes, number_of, last
 use gx_bytes::{Bytes, NoMemory, push_varint};
 use gx_pages::RowRef;
 
-/// Adds a row behind the last one of the list, which is `last`, or None where the list is empty. Without memory the bytes
-/// stay as they were.
+/// Adds a row behind the last one of the list, which is `last`, or None where the list is empty: at most 30 bytes. The list may stand
+/// behind other bytes. Without memory the bytes stay as they were.
 pub fn push_posting(to: &mut Bytes, last: Option<RowRef>, row: RowRef) -> Result<(), NoMemory>
     requires { IfSome last (λ before. before.number < row.number) }
     ensures bytes { OnOk result (to.new ≡ to.old ++ entry_bytes (number_of last) row) }
     ensures list { OnOk result ((rows : List RowRef) → Spells to.old rows → last_of rows ≡ last → Spells to.new (rows ++ row ∷ [])) }
+    ensures behind { OnOk result ((list : List ℕ) (rows : List RowRef) → Spells list rows → last_of rows ≡ last → Spells (list ++ entry_bytes (number_of last) row) (rows ++ row ∷ [])) }
+    ensures few { OnOk result (length to.new ≤ length to.old + 30) }
     ensures err { OnErr result (to.new ≡ to.old) }
 {
     let before = number_before(last);

@@ -1,11 +1,11 @@
 -- A page of level 0 with one more row.
-use Rattle.std.proofs.Common.{◌≡◌, ℕ, zero, suc, ◌+◌, ◌-◌, ◌^◌, ◌<◌, ◌≤◌, List, [], ◌∷◌, ◌++◌, length, take, drop, slice_get, slice_index_or, Option, Some, None, refl, sym, ◌∙◌, ap, subst, append_assoc, append-nil, length-append, arith}
+use Rattle.std.proofs.Common.{◌≡◌, ℕ, zero, suc, ◌+◌, ◌-◌, ◌^◌, ◌<◌, ◌≤◌, List, [], ◌∷◌, ◌++◌, length, take, drop, slice_get, Option, Some, None, refl, sym, ◌∙◌, ap, subst, append_assoc, append-nil, length-append, arith}
 use Rattle.std.specs.Prelude.{IfNone, IfSome}
 use Rattle.std.specs.List.{AllByRecursion}
 use Rattle.std.proofs.lemmas.List.{drop_all, take_all}
 use Rattle.gx_bytes.specs.Fields.{le64, of64, of64-le64}
 use Rattle.gx_pages.specs.declared.row.RowRef.{RowRef}
-use Rattle.gx_pages.specs.Rows.{AreBelow, IsRising}
+use Rattle.gx_pages.specs.Rows.{AreBelow}
 use Rattle.gx_pages.proofs.Footprints as feet
 use Rattle.gx_pages.proofs.Rising.{rising_push}
 use Rattle.gx_bytes.specs.Varints.{varint_bytes}
@@ -71,25 +71,6 @@ module _ (row : RowRef) (fits : row.number < 2 ^ 64) (least end : Option (List �
       (one_list item (parts.behind.0 ++ row ∷ []) (longer parts.behind.0 parts.behind.5) (let n = length-append parts.behind.0 (row ∷ []) in omega (arith, n)) short)))) in
       (omega (arith, last), omega (arith, last), omega (arith, many), more (replaced items place count (item ∷ [])) (appends have.rows have.spelled), appends)
 
--- the last of some rows
-pub last_is : (rows : List RowRef) (none : RowRef) → 0 < length rows → last_of rows ≡ Some (slice_index_or rows (length rows - 1) none)
-last_is [] none some = absurd (omega (arith, some))
-last_is (row ∷ rows) none some =
-    let place : length (row ∷ rows) - 1 ≡ length rows = omega arith in
-    subst (λ (k : ℕ). last_of (row ∷ rows) ≡ Some (slice_index_or (row ∷ rows) k none)) (sym place) (last_suc row rows none)
-  where
-    last_suc : (row : RowRef) (rows : List RowRef) (none : RowRef) → last_of (row ∷ rows) ≡ Some (slice_index_or (row ∷ rows) (length rows) none)
-    last_suc row [] none = refl
-    last_suc row (other ∷ rows) none = last_suc other rows none
-
-last_there : (rows : List RowRef) → 0 < length rows → last_of rows ≡ None → ⊥
-last_there [] some none = omega (arith, some)
-last_there (row ∷ []) some none = let e : Some row ≡ None = none in cc
-last_there (row ∷ other ∷ rows) some none = last_there (other ∷ rows) (omega arith) none
-
-pub no_last : (rows read : List RowRef) → read ≡ [] ++ rows → 0 < length rows → last_of read ≡ None → ⊥
-no_last rows read is some none = last_there rows some (ap (λ (l : List RowRef). last_of l) (sym is) ∙ none)
-
 -- the last row is below another where all are
 pub last_low : (rows : List RowRef) (last : RowRef) (number : ℕ) → last_of rows ≡ Some last → AreBelow rows number → last.number < number
 last_low [] last number is below = absurd (let e : None ≡ Some last = is in cc)
@@ -118,17 +99,8 @@ row_short row fits bytes is =
     )
 
 -- the last row that was read
-pub found_some : (list : List ℕ) (rows : List RowRef) (found : Option RowRef) → Spells list rows → found ≡ last_of ([] ++ rows) → IfSome found (λ last. (others : List RowRef) → Spells list others → last_of others ≡ Some last)
-found_some list rows None spells is = tt
-found_some list rows (Some last) spells is = λ others same. ap (λ (l : List RowRef). last_of l) (one_spelled list others rows same spells) ∙ sym is
-
-pub found_none : (list : List ℕ) (rows : List RowRef) (found : Option RowRef) → Spells list rows → found ≡ last_of ([] ++ rows) → IfNone found ((others : List RowRef) → Spells list others → 0 < length others → ⊥)
-found_none list rows None spells is = λ others same some. last_there others some (ap (λ (l : List RowRef). last_of l) (one_spelled list others rows same spells) ∙ sym is)
-found_none list rows (Some last) spells is = tt
-
--- no row stands in a list whose rows don't rise behind nothing
-pub never_read : (list : List ℕ) (rows : List RowRef) → Spells list rows → (IsRising ([] ++ rows) → ⊥) → ⊥
-never_read list rows spells refused = refused spells.rise
+pub found_last : (list : List ℕ) (last : RowRef) → (rows : List RowRef) × Spells list rows × (last_of rows ≡ Some last) → (others : List RowRef) → Spells list others → last_of others ≡ Some last
+found_last list last found others same = ap (λ (l : List RowRef). last_of l) (one_spelled list others found.0 same found.1) ∙ found.2
 
 -- a list among others begins with the number of its first row
 pub record Begin (item : List ℕ) : Type 0 where

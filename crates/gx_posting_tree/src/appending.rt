@@ -7,8 +7,8 @@ ghost use Rattle.gx_pages.specs.Rows.{AreBelow, IsRising};
 ghost use Rattle.gx_posting.specs.Postings.{Spells, last_of};
 
 use gx_bytes::{Bytes, NoMemory, get_u64, varint};
-use gx_pages::{Bitmap, RowRef};
-use gx_posting::{push_posting, read_posting};
+use gx_pages::RowRef;
+use gx_posting::{last_posting, push_posting};
 use gx_slot::SlotPage;
 use gx_tree::{Change, Edit, Seek};
 use std::alloc::Global;
@@ -56,16 +56,6 @@ fn number_in(key: &[u8]) -> Option<u64>
     None
 }
 
-/// The last of some rows.
-fn last_row(rows: &Bitmap) -> Option<RowRef>
-    ensures { result ≡ last_of rows.now }
-{
-    match rows.as_slice() {
-        [_front @ .., last] => Some(*last),
-        [] => None,
-    }
-}
-
 /// A list of one row.
 fn new_list(alloc: Global, row: RowRef) -> Result<Bytes, NoMemory>
     ensures spelled { IfOk result (λ item. Spells item (row ∷ [])) }
@@ -84,19 +74,6 @@ fn longer_list(alloc: Global, list: &[u8], last: RowRef, row: RowRef) -> Result<
     let mut item = Bytes::from_slice(alloc, list)?;
     push_posting(&mut item, Some(last), row)?;
     Ok(item)
-}
-
-/// The last row of a list. None where the bytes spell no list, or one without rows.
-fn last_in(alloc: Global, list: &[u8]) -> Result<Option<RowRef>, NoMemory>
-    ensures some { IfOk result (λ found. IfSome found (λ last. (rows : List RowRef) → Spells list.now rows → last_of rows ≡ Some last)) }
-    ensures none { IfOk result (λ found. IfNone found ((rows : List RowRef) → Spells list.now rows → 0 < length rows → ⊥)) }
-{
-    let mut rows = Bitmap::new(alloc);
-    let done = read_posting(list, &mut rows)?;
-    if done {
-        return Ok(last_row(&rows));
-    }
-    Ok(None)
 }
 
 impl Seek for Appending {
@@ -150,8 +127,7 @@ impl Change for Appending {
         let Some(list) = slots.item(count - 1) else {
             return Ok(None);
         };
-        let found = last_in(alloc, list)?;
-        let Some(last) = found else {
+        let Some(last) = last_posting(list) else {
             return Ok(None);
         };
         let before = last.number;

@@ -9,4 +9,5 @@ mod removing;
 mod tree;
 
 pub use laws::one_list;
+pub use removing::kept_item;
 pub use tree::PostingTree;

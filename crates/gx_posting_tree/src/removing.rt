@@ -54,8 +54,8 @@ fn kept_list(alloc: Global, rows: &Bitmap, gone: &Bitmap) -> Result<Bytes, NoMem
     Ok(item)
 }
 
-/// A list without some rows.
-fn kept_item(alloc: Global, page: u64, item: &[u8], gone: &Bitmap) -> Result<Bytes, PageError>
+/// A posting list without some rows. Where the bytes spell no list, Broken names the page.
+pub fn kept_item(alloc: Global, page: u64, item: &[u8], gone: &Bitmap) -> Result<Bytes, PageError>
     ensures kept { IfOk result (λ kept. (rows : List RowRef) → Spells item.now rows → Spells kept (without gone.now rows)) }
     ensures cause { IfErr result (IsBrokenOr page ((rows : List RowRef) → Spells item.now rows → ⊥)) }
 {
