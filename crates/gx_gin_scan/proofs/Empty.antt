@@ -1,5 +1,5 @@
 -- An index without rows.
-use Rattle.std.proofs.Common.{◌≡◌, ℕ, List, [], ◌∷◌, refl}
+use Rattle.std.proofs.Common.{ℕ, List, [], ◌∷◌, refl}
 use Rattle.gx_pages.specs.declared.store.Pages.{Ghosts}
 use Rattle.gx_gin_entry.specs.EntryTrees.{HoldsEntries}
 use Rattle.gx_gin_scan.specs.Gins.{HoldsGin}

@@ -1,5 +1,5 @@
 -- What a change of one structure of an index leaves of the others.
-use Rattle.std.proofs.Common.{◌≡◌, ◌≢◌, ◌⊎◌, inl, inr, ⊎_elim, ℕ, zero, suc, ◌+◌, ◌<◌, ◌≤◌, List, [], ◌∷◌, ◌++◌, length, drop, get_or, refl, sym, ◌∙◌, ap, subst, append_assoc, append-nil, arith}
+use Rattle.std.proofs.Common.{◌≡◌, inl, inr, ⊎_elim, ℕ, zero, suc, ◌+◌, ◌<◌, ◌≤◌, List, [], ◌∷◌, ◌++◌, length, drop, get_or, refl, sym, ap, subst, arith}
 use Rattle.std.specs.List.{AllByRecursion}
 use Rattle.std.specs.List.Sorted.{IsPermutation}
 use Rattle.std.proofs.lemmas.Bool.Decides.{eqb_tells}
@@ -7,10 +7,9 @@ use Rattle.std.proofs.lemmas.List.Sorted.{IsPermutation-refl, IsPermutation-tran
 use Rattle.gx_words.specs.PageMap.{PageMap}
 use Rattle.gx_pages.specs.declared.row.RowRef.{RowRef}
 use Rattle.gx_pages.specs.declared.store.Pages.{Ghosts}
-use Rattle.gx_pages.specs.Footprints.{IsOutside, KeepsPages, grown}
+use Rattle.gx_pages.specs.Footprints.{KeepsPages, grown}
 use Rattle.gx_pages.specs.Frees.{IsApart, IsFreeList}
-use Rattle.gx_pages.proofs.Footprints.{all_join, all_left, all_right, apart_once, hit, hit_none, keeps_join, keeps_none, kept_apart, none_outside, once_apart, outside_none, times, times-append, times-permutation, times_one}
-use Rattle.gx_tree.specs.Trees.{footprint}
+use Rattle.gx_pages.proofs.Footprints.{all_join, apart_once, hit_none, keeps_join, keeps_none, kept_apart, none_outside, once_apart, outside_none, times, times-append, times-permutation, times_one}
 use Rattle.gx_tree.proofs.Staying.{stays}
 use Rattle.gx_gin_entry.specs.EntryTrees.{Entry, HoldsMap}
 use Rattle.gx_gin_entry.specs.Listed.{entries_of}
@@ -89,7 +88,7 @@ module _ {P : Type 0} (g : Ghosts P) where
       }
 
   module _ (old new : P) (before free after rest : List ℕ) (keeps : KeepsPages g old new before free after rest) where
-    posting_stays : (posting : List ℕ) (rows : List RowRef) (own : List ℕ) → IsPosting (g.map old) (g.count old) posting rows own → IsApart (before ++ free ++ own) → IsPosting (g.map new) (g.count new) posting rows own
+    pub posting_stays : (posting : List ℕ) (rows : List RowRef) (own : List ℕ) → IsPosting (g.map old) (g.count old) posting rows own → IsApart (before ++ free ++ own) → IsPosting (g.map new) (g.count new) posting rows own
     posting_stays posting rows own stands apart =
         ⊎_elim
         (λ short. inl short)
@@ -147,7 +146,7 @@ module _ {P : Type 0} (g : Ghosts P) where
     }
 
 -- the pages of postings are below the count
-posting_below : (now : PageMap) (count : ℕ) (posting : List ℕ) (rows : List RowRef) (own : List ℕ) → IsPosting now count posting rows own → AllByRecursion (λ page. page < count) own
+pub posting_below : (now : PageMap) (count : ℕ) (posting : List ℕ) (rows : List RowRef) (own : List ℕ) → IsPosting now count posting rows own → AllByRecursion (λ page. page < count) own
 posting_below now count posting rows own stands =
     ⊎_elim
     (λ short. subst (λ (l : List ℕ). AllByRecursion (λ (page : ℕ). page < count) l) (sym short.stand) tt)

@@ -1,11 +1,11 @@
 -- An index that is given back.
-use Rattle.std.proofs.Common.{◌≡◌, ℕ, ◌+◌, ◌<◌, ◌≤◌, List, [], ◌∷◌, ◌++◌, refl, sym, ◌∙◌, ap, subst, append_assoc, append-nil, arith}
+use Rattle.std.proofs.Common.{◌≡◌, ℕ, ◌<◌, List, [], ◌++◌, sym, ◌∙◌, subst, append-nil, arith}
 use Rattle.std.specs.List.{AllByRecursion}
 use Rattle.gx_words.specs.PageMap.{PageMap}
 use Rattle.gx_pages.specs.declared.store.Pages.{Ghosts}
 use Rattle.gx_pages.specs.Footprints.{KeepsPages}
 use Rattle.gx_pages.specs.Frees.{IsApart, IsFreeList}
-use Rattle.gx_pages.proofs.Footprints.{all_join, apart_once, free_list_at, keeps_from, keeps_join, kept_beside, once_apart, times, times-append}
+use Rattle.gx_pages.proofs.Footprints.{all_join, apart_once, free_list_at, keeps_from, keeps_join, kept_beside, once_apart, times-append}
 use Rattle.gx_gin_entry.specs.EntryTrees.{Entry, HoldsEntries, HoldsMap}
 use Rattle.gx_gin_scan.specs.Gins.{AreHeld, HoldsGin}
 use Rattle.gx_gin_scan.specs.Lists.{Lists}

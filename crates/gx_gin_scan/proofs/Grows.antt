@@ -1,5 +1,5 @@
 -- An index with a row more.
-use Rattle.std.proofs.Common.{◌≡◌, ◌≢◌, ◌⊎◌, inl, inr, ⊎_elim, ℕ, zero, suc, ◌+◌, ◌<◌, ◌≤◌, Bool, true, false, cond, List, [], ◌∷◌, ◌++◌, length, map, filter, Option, Some, None, refl, sym, ◌∙◌, ap, subst, append_assoc, append-nil, arith}
+use Rattle.std.proofs.Common.{◌≡◌, ◌≢◌, ⊎_elim, ℕ, ◌+◌, Bool, true, false, cond, List, [], ◌∷◌, ◌++◌, map, filter, Option, Some, None, refl, sym, ◌∙◌, ap, subst, append_assoc, append-nil, arith}
 use Rattle.std.specs.List.{AllByRecursion}
 use Rattle.std.specs.Str.{bytes_eq}
 use Rattle.std.proofs.lemmas.List.{map-append}
@@ -15,7 +15,7 @@ use Rattle.gx_pages.proofs.Footprints.{all_right, times, times-append}
 use Rattle.gx_gin_entry.specs.EntryTrees.{AreRising, Entry, IsBefore, IsFound, IsPut, entry_of}
 use Rattle.gx_gin_entry.specs.Keys.{not_itself, rising_across}
 use Rattle.gx_gin_scan.specs.Gins.{AreHeld, IsPosting}
-use Rattle.gx_gin_scan.specs.Lists.{IsIndexOf, Lists, keys_of, rows_under}
+use Rattle.gx_gin_scan.specs.Lists.{Grows, IsIndexOf, Lists, keys_of, rows_under}
 use Rattle.gx_gin_scan.proofs.Held.{before_differs, bytes_differ, bytes_same, bytes_tell, not_both, under_other, under_same}
 
 -- entries with their lists in two parts
@@ -103,10 +103,6 @@ under_here (list ∷ left) key rows right none = under_other list (left ++ (key,
 pub under_nowhere : (lists : Lists) (key : List ℕ) → AllByRecursion (λ list. list.0 ≢ key) lists → rows_under lists key ≡ []
 under_nowhere [] key none = refl
 under_nowhere (list ∷ lists) key none = under_other list lists key (bytes_differ list.0 key none.0) ∙ under_nowhere lists key none.1
-
--- The lists have a row more under these keys.
-abbrev pub Grows : List (List ℕ) → RowRef → Lists → Lists → Type 0
-Grows keys row lists later = (k : List ℕ) → rows_under later k ≡ rows_under lists k ++ cond (is_among keys k) (row ∷ []) []
 
 module _ {V : Type 0} (items_of : V → List (List ℕ)) (lists later : Lists) (rows : List (RowRef × V)) (row : RowRef) (value : V) where
   pub index_grows : IsIndexOf items_of lists rows → AreBelow (map (λ (r : RowRef × V). r.0) rows) row.number → AreRisingKeys (map (λ list. list.0) later) → AllByRecursion (λ list. list.1 ≢ []) later
@@ -227,23 +223,27 @@ first_same x y xs ys e = cc
 rest_same : (x y : Entry) (xs ys : List Entry) → x ∷ xs ≡ y ∷ ys → xs ≡ ys
 rest_same x y xs ys e = cc
 
+-- rising entries are cut at a key in one way
+pub same_cut : (key posting was : List ℕ) (a c b d : List Entry) → AreRising (a ++ (key, posting) ∷ b) → a ++ (key, posting) ∷ b ≡ c ++ (key, was) ∷ d → (a ≡ c) × (b ≡ d) × (posting ≡ was)
+same_cut key posting was [] [] b d up e =
+    let heads : (key, posting) ≡ (key, was) = first_same (key, posting) (key, was) b d e in
+    (refl, rest_same (key, posting) (key, was) b d e, ap (λ (o : Entry). o.1) heads)
+same_cut key posting was [] (x ∷ c) b d up e =
+    let tail : b ≡ c ++ (key, was) ∷ d = rest_same (key, posting) x b (c ++ (key, was) ∷ d) e in
+    absurd (not_itself key ((all_right (λ (o : Entry). IsBefore key o.0) c ((key, was) ∷ d) (subst (λ (l : List Entry). AllByRecursion (λ (o : Entry). IsBefore key o.0) l) tail up.0)).0))
+same_cut key posting was (x ∷ a) [] b d up e =
+    let head : x ≡ (key, was) = first_same x (key, was) (a ++ (key, posting) ∷ b) d e in
+    let low : IsBefore x.0 key = (all_right (λ (o : Entry). IsBefore x.0 o.0) a ((key, posting) ∷ b) up.0).0 in
+    absurd (not_itself key (subst (λ (o : Entry). IsBefore o.0 key) head low))
+same_cut key posting was (x ∷ a) (y ∷ c) b d up e =
+    let head : x ≡ y = first_same x y (a ++ (key, posting) ∷ b) (c ++ (key, was) ∷ d) e in
+    let tail : a ++ (key, posting) ∷ b ≡ c ++ (key, was) ∷ d = rest_same x y (a ++ (key, posting) ∷ b) (c ++ (key, was) ∷ d) e in
+    let rest = same_cut key posting was a c b d up.1 tail in
+    (ap (λ (o : Entry). o ∷ a) head ∙ ap (λ (l : List Entry). y ∷ l) rest.0, rest.1, rest.2)
+
 -- a key has one posting
 pub one_posting : (entries : List Entry) (key : List ℕ) (found : Option (List ℕ)) → AreRising entries → IsFound entries key found → (front back : List Entry) (posting : List ℕ) → entries ≡ front ++ (key, posting) ∷ back → found ≡ Some posting
 one_posting entries key None rising none front back posting cut =
     absurd ((all_right (λ (e : Entry). e.0 ≢ key) front ((key, posting) ∷ back) (subst (λ (l : List Entry). AllByRecursion (λ (e : Entry). e.0 ≢ key) l) cut none)).0 refl)
 one_posting entries key (Some was) rising there front back posting cut =
-    ap (λ (p : List ℕ). Some p) (same_place front there.0 back there.1 (subst (λ (l : List Entry). AreRising l) cut rising) (sym cut ∙ there.2))
-  where
-    same_place : (a c b d : List Entry) → AreRising (a ++ (key, posting) ∷ b) → a ++ (key, posting) ∷ b ≡ c ++ (key, was) ∷ d → was ≡ posting
-    same_place [] [] b d up e = let heads : (key, posting) ≡ (key, was) = first_same (key, posting) (key, was) b d e in sym (ap (λ (o : Entry). o.1) heads)
-    same_place [] (x ∷ c) b d up e =
-        let tail : b ≡ c ++ (key, was) ∷ d = rest_same (key, posting) x b (c ++ (key, was) ∷ d) e in
-        let head : (key, posting) ≡ x = first_same (key, posting) x b (c ++ (key, was) ∷ d) e in
-        absurd (not_itself key ((all_right (λ (o : Entry). IsBefore key o.0) c ((key, was) ∷ d) (subst (λ (l : List Entry). AllByRecursion (λ (o : Entry). IsBefore key o.0) l) tail up.0)).0))
-    same_place (x ∷ a) [] b d up e =
-        let head : x ≡ (key, was) = first_same x (key, was) (a ++ (key, posting) ∷ b) d e in
-        let low : IsBefore x.0 key = (all_right (λ (o : Entry). IsBefore x.0 o.0) a ((key, posting) ∷ b) up.0).0 in
-        absurd (not_itself key (subst (λ (o : Entry). IsBefore o.0 key) head low))
-    same_place (x ∷ a) (y ∷ c) b d up e =
-        let tail : a ++ (key, posting) ∷ b ≡ c ++ (key, was) ∷ d = rest_same x y (a ++ (key, posting) ∷ b) (c ++ (key, was) ∷ d) e in
-        same_place a c b d up.1 tail
+    ap (λ (p : List ℕ). Some p) (sym (same_cut key posting was front there.0 back there.1 (subst (λ (l : List Entry). AreRising l) cut rising) (sym cut ∙ there.2)).2)

@@ -1,5 +1,5 @@
 -- The rows of a key, as pages hold them.
-use Rattle.std.proofs.Common.{◌≡◌, ◌≢◌, ◌⊎◌, inl, inr, ⊎_elim, ℕ, zero, suc, ◌+◌, ◌^◌, ◌<◌, ◌≤◌, Bool, true, false, cond, List, [], ◌∷◌, ◌++◌, length, Option, Some, None, refl, sym, ◌∙◌, ap, subst, arith}
+use Rattle.std.proofs.Common.{◌≡◌, ◌≢◌, ◌⊎◌, inl, inr, ⊎_elim, ℕ, zero, suc, ◌^◌, ◌<◌, ◌≤◌, Bool, true, false, List, [], ◌∷◌, ◌++◌, Some, None, refl, sym, ◌∙◌, subst, arith}
 use Rattle.std.specs.List.{AllByRecursion}
 use Rattle.std.specs.Str.{bytes_eq}
 use Rattle.std.proofs.lemmas.Slice.Eq.{bytes_eq-Decides}
@@ -8,12 +8,11 @@ use Rattle.gx_words.specs.PageMap.{PageMap}
 use Rattle.gx_pages.specs.declared.row.RowRef.{RowRef}
 use Rattle.gx_pages.proofs.Footprints.{all_right}
 use Rattle.gx_posting.specs.Postings.{Spells}
-use Rattle.gx_posting.proofs.PostingFacts.{one_spelled}
 use Rattle.gx_posting_tree.specs.PostingTrees.{HoldsList}
-use Rattle.gx_tree.specs.Trees.{Holds, Node, Tree}
-use Rattle.gx_gin_entry.specs.EntryTrees.{AreRising, Entry, HoldsMap, IsBefore, IsFound}
+use Rattle.gx_tree.specs.Trees.{Holds, Node}
+use Rattle.gx_gin_entry.specs.EntryTrees.{AreRising, Entry, IsBefore, IsFound}
 use Rattle.gx_gin_entry.specs.Keys.{not_itself}
-use Rattle.gx_gin_scan.specs.Gins.{AreHeld, HoldsLists, IsInline, IsPosting, IsTree, pages_under}
+use Rattle.gx_gin_scan.specs.Gins.{AreHeld, HoldsLists, IsPosting, pages_under}
 use Rattle.gx_gin_scan.specs.Lists.{Lists, rows_under}
 
 -- whether bytes are equal

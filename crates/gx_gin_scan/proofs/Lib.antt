@@ -7,3 +7,7 @@ pub mod Listed
 pub mod Frames
 pub mod Gone
 pub mod Grows
+pub mod Puts
+pub mod Inserts
+pub mod Strips
+pub mod Stays

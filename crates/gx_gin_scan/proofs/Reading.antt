@@ -1,10 +1,9 @@
 -- Reading the rows of keys one by one.
-use Rattle.std.proofs.Common.{◌≡◌, ℕ, zero, suc, ◌+◌, ◌<◌, ◌≤◌, List, [], ◌∷◌, ◌++◌, length, map, take, Some, None, refl, sym, ◌∙◌, ap, subst, arith}
+use Rattle.std.proofs.Common.{◌≡◌, ℕ, zero, suc, ◌+◌, ◌≤◌, List, [], ◌∷◌, ◌++◌, map, take, Some, None, sym, ◌∙◌, ap, subst, arith}
 use Rattle.std.specs.Prelude.{slice_get}
 use Rattle.std.proofs.lemmas.List.{map-append}
 use Rattle.gx_words.specs.PageMap.{PageMap}
-use Rattle.gx_pages.specs.declared.row.RowRef.{RowRef}
-use Rattle.gx_gin_scan.specs.Gins.{HoldsLists, HoldsNoLists, pages_under}
+use Rattle.gx_gin_scan.specs.Gins.{HoldsLists}
 use Rattle.gx_gin_scan.specs.Lists.{Lists, rows_under}
 use Rattle.gx_gin_scan.specs.Searches.{item_key, lists_of, pages_read}
 

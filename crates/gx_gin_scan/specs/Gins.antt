@@ -1,5 +1,5 @@
 -- A GIN index on pages: an entry tree of keys, and the rows of each key in its entry or in a posting tree.
-use Rattle.std.specs.Prelude.{◌≡◌, ◌≢◌, ◌⊎◌, ℕ, ◌≤◌, if◌then◌else◌, List, [], ◌∷◌, ◌++◌, length}
+use Rattle.std.specs.Prelude.{◌≡◌, ◌≢◌, ◌⊎◌, ℕ, ◌≤◌, if◌then◌else◌, List, [], ◌∷◌, ◌++◌, length, Some, None}
 use Rattle.std.specs.Str.{bytes_eq}
 use Rattle.gx_bytes.specs.Fields.{le64}
 use Rattle.gx_words.specs.PageMap.{PageMap}
@@ -8,7 +8,7 @@ use Rattle.gx_pages.specs.declared.store.Pages.{Ghosts}
 use Rattle.gx_pages.specs.Frees.{IsApart, IsFreeList}
 use Rattle.gx_posting.specs.Postings.{Spells}
 use Rattle.gx_posting_tree.specs.PostingTrees.{HoldsList}
-use Rattle.gx_gin_entry.specs.EntryTrees.{Entry, HoldsMap}
+use Rattle.gx_gin_entry.specs.EntryTrees.{Entry, HoldsMap, IsFound}
 use Rattle.gx_gin_scan.specs.Lists.{Lists}
 
 -- byte 0 and a posting list of at most 512 bytes, on no pages of its own
@@ -28,6 +28,10 @@ pub record IsTree (map_of : PageMap) (count : ℕ) (posting : List ℕ) (rows : 
 -- The posting stands for these rows, on these pages.
 abbrev pub IsPosting : PageMap → ℕ → List ℕ → List RowRef → List ℕ → Type 0
 IsPosting map_of count posting rows feet = IsInline posting rows feet ⊎ IsTree map_of count posting rows feet
+
+-- The key has a posting of this list, or none, and the list is empty.
+abbrev pub HasList : List Entry → List ℕ → List ℕ → Type 0
+HasList entries key list = IsFound entries key (Some (0 ∷ list)) ⊎ (IsFound entries key None × (list ≡ []))
 
 -- Each entry has a key with its rows, of which there are some, on pages of its own.
 abbrev pub AreHeld : PageMap → ℕ → List Entry → Lists → List ℕ → Type 0

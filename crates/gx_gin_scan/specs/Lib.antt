@@ -1,3 +1,4 @@
 pub mod Lists
 pub mod Gins
 pub mod Searches
+pub mod Removing

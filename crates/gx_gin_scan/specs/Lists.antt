@@ -3,7 +3,7 @@ use Rattle.std.specs.Prelude.{◌≡◌, ◌≢◌, ◌&&◌, ℕ, Bool, true, f
 use Rattle.std.specs.List.{AllByRecursion}
 use Rattle.std.specs.Str.{bytes_eq}
 use Rattle.gx_pages.specs.declared.row.RowRef.{RowRef}
-use Rattle.gx_pages.specs.Rows.{IsRising}
+use Rattle.gx_pages.specs.Rows.{AreBelow, IsRising}
 use Rattle.gx_gist.specs.declared.test.Test.{Test}
 use Rattle.gx_gist.specs.declared.test.Test.TheVariants.{No, Maybe, Yes}
 use Rattle.gx_gin.specs.Reach.{flags, is_among, reaches}
@@ -39,3 +39,11 @@ isnt_no Yes = true
 abbrev pub found : {V : Type 0} → (V → List (List ℕ)) → Mode → List (List ℕ) → (List Bool → Test) → List (RowRef × V) → List RowRef
 found items_of mode wanted passes rows =
     map (λ row. row.0) (filter (λ row. reaches mode wanted (items_of row.1) && isnt_no (passes (flags wanted (items_of row.1)))) rows)
+
+-- The row stands later behind the rows of these keys; all else stays.
+abbrev pub Grows : List (List ℕ) → RowRef → Lists → Lists → Type 0
+Grows keys row lists later = (key : List ℕ) → rows_under later key ≡ rows_under lists key ++ (if is_among keys key then row ∷ [] else [])
+
+-- the row's number is above those of all rows under any key
+abbrev pub IsBehind : Lists → RowRef → Type 0
+IsBehind lists row = (key : List ℕ) → AreBelow (rows_under lists key) row.number

@@ -1,23 +1,25 @@
 //! A GIN index.
 
-ghost use Rattle.std.specs.Prelude.{◌≡◌, ◌≢◌, ℕ, ◌+◌, ◌≤◌, List, [], ◌∷◌, IfOk, IfErr, OnOk};
+ghost use Rattle.std.specs.Prelude.{◌≡◌, ◌≢◌, ℕ, ◌+◌, ◌*◌, ◌≤◌, List, [], ◌∷◌, ◌++◌, filter, length, map, not, IfOk, IfErr, OnOk};
 ghost use Rattle.gx_chain.specs.Chains.{IsSound, ListsNone};
 ghost use Rattle.gx_pages.specs.declared.row.RowRef.{RowRef};
 ghost use Rattle.gx_pages.specs.Footprints.{KeepsPages, StaysQuiet};
 ghost use Rattle.gx_pages.specs.Frees.{IsFreeList, IsFull};
 ghost use Rattle.gx_pages.specs.Pages.{HasCause};
-ghost use Rattle.gx_pages.specs.Rows.{IsRising};
+ghost use Rattle.gx_pages.specs.Rows.{AreBelow, IsRising};
 ghost use Rattle.gx_gin.specs.declared.wanted.Mode.TheVariants.{All};
 ghost use Rattle.gx_gin_scan.specs.Gins.{HoldsGin, HoldsLists, HoldsNoGin, HoldsNoLists};
-ghost use Rattle.gx_gin_scan.specs.Lists.{IsIndexOf, Lists, found};
-ghost use Rattle.gx_gin_scan.specs.Searches.{keys_read, pages_read};
+ghost use Rattle.gx_gin_scan.specs.Lists.{IsIndexOf, Lists, found, keys_of};
+ghost use Rattle.gx_gin_scan.specs.Searches.{has, keys_read, pages_read};
 
 use crate::dropping::drop_postings;
+use crate::inserting::put_keys;
 use crate::looking::rows_looked_at;
+use crate::removing::strip_entries;
 use crate::searching::{arrange, pick, rows_of_items};
 use gx_gin::{GinClass, Wanted};
 use gx_gin_entry::EntryTree;
-use gx_pages::{Bitmap, PageError, Pages};
+use gx_pages::{Bitmap, PageError, Pages, RowRef};
 use std::alloc::Global;
 
 /// An index of an operator class: the root page of its entry tree, whose number stays the same.
@@ -54,6 +56,36 @@ impl<C: GinClass> Gin<C> {
         Gin { class, root }
     }
 
+    /// Adds a row with its value; the row's number is above all that stand. At most 61 pages more are taken for each key of the value.
+    pub fn insert<P: Pages>(
+        &mut self,
+        alloc: Global,
+        pages: &mut P,
+        row: RowRef,
+        value: &C::Value,
+    ) -> Result<(), PageError>
+        requires class { C.valid self.old.class }
+        requires value { C.valid_value self.old.class value.now }
+        ensures inserted { OnOk result (P.tells → (lists : Lists) (feet free : List ℕ) → HoldsGin P.Pages pages.old self.old.root lists feet free
+            → (all : List (RowRef × C.Value)) → IsIndexOf (C.items_of self.old.class) lists all → AreBelow (map (λ r. r.0) all) row.number
+            → (after : Lists) × (later : List ℕ) × (rest : List ℕ) × HoldsGin P.Pages pages.new self.old.root after later rest × KeepsPages P.Pages pages.old pages.new feet free later rest
+            × IsIndexOf (C.items_of self.old.class) after (all ++ (row, value.now) ∷ [])) }
+        ensures same { self.new ≡ self.old }
+        ensures grows { P.count pages.old ≤ P.count pages.new }
+        ensures by { P.count pages.new ≤ P.count pages.old + 61 * length (keys_of (C.items_of self.old.class value.now)) }
+        ensures cause { IfErr result (HasCause (P.faults pages.old) (P.faults pages.new)
+            (λ at expected found. P.tells → (lists : Lists) (feet free : List ℕ) → HoldsGin P.Pages pages.old self.old.root lists feet free
+            → (all : List (RowRef × C.Value)) → IsIndexOf (C.items_of self.old.class) lists all → AreBelow (map (λ r. r.0) all) row.number → ⊥)
+            (IsFull P.tells (P.map pages.new) (P.count pages.new)) (Unit {0})) }
+        ensures heap { IsSound result → P.heap_fetches pages.new ≡ P.heap_fetches pages.old }
+        ensures quiet { StaysQuiet P.Pages pages.old pages.new }
+    {
+        let Ok(items) = self.class.items(alloc, value) else {
+            return Err(PageError::Memory);
+        };
+        put_keys(alloc, pages, self.root, &items, row)
+    }
+
     /// The rows in reach of a query that its flags don't rule out. A page a level of the entry tree is fetched for each wanted item,
     /// and each page of its posting tree; in mode All each page of the index is fetched once, beside them.
     pub fn search<P: Pages>(
@@ -86,6 +118,28 @@ impl<C: GinClass> Gin<C> {
         let looked = rows_looked_at(alloc, pages, self.root, mode, lists.as_slice())?;
         let rows = arrange(alloc, looked)?;
         pick(alloc, &self.class, query, lists.as_slice(), &rows)
+    }
+
+    /// Takes out the rows with these numbers. A key without rows goes, with the pages of its rows. No page is taken.
+    pub fn remove_rows<P: Pages>(
+        &mut self,
+        alloc: Global,
+        pages: &mut P,
+        gone: &Bitmap,
+    ) -> Result<(), PageError>
+        ensures removed { OnOk result (P.tells → (lists : Lists) (feet free : List ℕ) → HoldsGin P.Pages pages.old self.old.root lists feet free
+            → (all : List (RowRef × C.Value)) → IsIndexOf (C.items_of self.old.class) lists all
+            → (after : Lists) × (later : List ℕ) × (rest : List ℕ) × HoldsGin P.Pages pages.new self.old.root after later rest × KeepsPages P.Pages pages.old pages.new feet free later rest
+            × IsIndexOf (C.items_of self.old.class) after (filter (λ row. not (has gone.now row.0.number)) all)) }
+        ensures same { self.new ≡ self.old }
+        ensures count { P.count pages.new ≡ P.count pages.old }
+        ensures cause { IfErr result (HasCause (P.faults pages.old) (P.faults pages.new)
+            (λ at expected found. P.tells → HoldsNoGin P.Pages pages.old self.old.root) (λ _. ⊥) (Unit {0})) }
+        ensures heap { IsSound result → P.heap_fetches pages.new ≡ P.heap_fetches pages.old }
+        ensures quiet { StaysQuiet P.Pages pages.old pages.new }
+    {
+        let entries = EntryTree::at(self.root).entries(alloc, pages)?;
+        strip_entries(alloc, pages, self.root, entries.as_slice(), gone)
     }
 
     /// The root page.

@@ -3,8 +3,14 @@
 
 mod dropping;
 mod gin;
+mod growing;
+mod inserting;
+mod laws;
 mod looking;
 mod postings;
+mod putting;
+mod removing;
 mod searching;
 
 pub use gin::Gin;
+pub use laws::index_stays;

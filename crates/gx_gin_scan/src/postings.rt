@@ -19,7 +19,7 @@ use gx_posting_tree::PostingTree;
 use std::alloc::Global;
 
 /// The byte before the root page of a posting tree; before a list stands 0.
-const TREE: u8 = 1;
+pub const TREE: u8 = 1;
 
 /// The posting of a key isn't as it has to be.
 pub fn broken(page: u64) -> PageError
@@ -56,7 +56,8 @@ pub fn root_in(posting: &[u8]) -> Option<u64>
 }
 
 /// The rows that a posting list spells.
-fn rows_of_list(alloc: Global, page: u64, list: &[u8]) -> Result<Bitmap, PageError>
+pub fn rows_of_list(alloc: Global, page: u64, list: &[u8]) -> Result<Bitmap, PageError>
+    ensures spelled { IfOk result (λ found. Spells list.now found) }
     ensures rows { IfOk result (λ found. (rows : List RowRef) → Spells list.now rows → found ≡ rows) }
     ensures cause { IfErr result (IsBrokenOr page ((rows : List RowRef) → Spells list.now rows → ⊥)) }
 {

@@ -1,7 +1,6 @@
-use Rattle.std.proofs.Common.{◌≡◌, ◌≤◌, ◌+◌, ◌++◌, [], ℕ, List, sym, ◌∙◌, ap, subst, arith}
+use Rattle.std.proofs.Common.{ℕ, sym, subst, arith}
 use Rattle.std.proofs.lemmas.Result.{on_ok_weaker, IfErr-weaker}
-use Rattle.gx_pages.specs.declared.row.RowRef.{RowRef}
-use Rattle.gx_pages.proofs.Footprints.{cause_weaker, keeps_none}
+use Rattle.gx_pages.proofs.Footprints.{cause_weaker}
 use Rattle.gx_posting_tree.specs.PostingTrees.{HoldsRows}
 use Rattle.gx_gin_scan.proofs.Held.{of_tree}
 use Rattle.gx_gin_scan.proofs.dropping.drop_posting.Goals as goal

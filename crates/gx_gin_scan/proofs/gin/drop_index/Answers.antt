@@ -1,6 +1,5 @@
-use Rattle.std.proofs.Common.{◌≡◌, ◌+◌, ◌∙◌, ◌++◌, [], ℕ, List, refl, sym, ap, subst, arith}
+use Rattle.std.proofs.Common.{◌≡◌, ◌∙◌, ℕ, List, sym, ap, subst, arith}
 use Rattle.std.proofs.lemmas.Result.{on_ok_weaker, IfErr-weaker, err_from_is_err_and}
-use Rattle.gx_pages.specs.Footprints.{KeepsPages}
 use Rattle.gx_pages.proofs.Footprints.{cause_weaker}
 use Rattle.gx_gin_entry.specs.EntryTrees.{HoldsEntries, HoldsMap}
 use Rattle.gx_gin_entry.specs.Listed.{entries_of}

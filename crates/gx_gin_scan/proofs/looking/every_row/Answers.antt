@@ -1,12 +1,9 @@
-use Rattle.std.proofs.Common.{◌≡◌, ◌≤◌, ◌+◌, ◌∙◌, ℕ, List, refl, sym, ap, subst, arith}
+use Rattle.std.proofs.Common.{◌≡◌, ◌∙◌, ℕ, List, sym, ap, subst, arith}
 use Rattle.std.proofs.lemmas.Result.{IfOk-weaker, IfErr-weaker, err_from_is_err_and}
-use Rattle.gx_words.specs.PageMap.{PageMap}
 use Rattle.gx_pages.proofs.Footprints.{cause_weaker}
-use Rattle.gx_gin_entry.specs.EntryTrees.{Entry, HoldsMap}
+use Rattle.gx_gin_entry.specs.EntryTrees.{HoldsMap}
 use Rattle.gx_gin_entry.specs.Listed.{entries_of}
 use Rattle.gx_gin_entry.specs.declared.listing.EntryBytes.{EntryBytes}
-use Rattle.gx_gin_scan.specs.Gins.{AreHeld}
-use Rattle.gx_gin_scan.specs.Searches.{all_rows}
 use Rattle.gx_gin_scan.proofs.Listed.{held_at}
 use Rattle.gx_gin_scan.proofs.looking.every_row.Goals as goal
 

@@ -1,7 +1,7 @@
-use Rattle.std.proofs.Common.{◌≡◌, ◌≤◌, ◌+◌, ◌++◌, ◌∙◌, ℕ, List, length, take, get_or, refl, sym, ap, subst, arith}
+use Rattle.std.proofs.Common.{◌++◌, ◌∙◌, List, take, get_or, sym, ap, arith}
 use Rattle.std.proofs.lemmas.Result.{err_from_is_err_and}
 use Rattle.gx_pages.specs.declared.row.RowRef.{RowRef}
-use Rattle.gx_pages.proofs.Footprints.{cause_weaker, quiet_join, quiet_none}
+use Rattle.gx_pages.proofs.Footprints.{cause_weaker, quiet_join}
 use Rattle.gx_gin_entry.specs.declared.listing.EntryBytes.{EntryBytes}
 use Rattle.gx_gin_scan.specs.Lists.{Lists}
 use Rattle.gx_gin_scan.specs.Searches.{all_rows}

@@ -1,6 +1,6 @@
-use Rattle.std.proofs.Common.{◌≡◌, ◌≤◌, ◌+◌, ◌++◌, ◌∙◌, ℕ, List, sym, ap, arith}
+use Rattle.std.proofs.Common.{◌++◌, ◌∙◌, List, ap, arith}
 use Rattle.gx_pages.specs.declared.row.RowRef.{RowRef}
-use Rattle.gx_gin_scan.specs.Searches.{joined, placeholder}
+use Rattle.gx_gin_scan.specs.Searches.{joined}
 use Rattle.gx_gin_scan.proofs.looking.with_empty.Goals as goal
 
 pub returns-clause-rows : goal.returns-clause-rows

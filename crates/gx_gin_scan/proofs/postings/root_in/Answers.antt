@@ -1,4 +1,4 @@
-use Rattle.std.proofs.Common.{◌≡◌, ◌⊎◌, ⊎_elim, ◌∷◌, ℕ, List, length, sym, ◌∙◌, ap}
+use Rattle.std.proofs.Common.{◌≡◌, ⊎_elim, ◌∷◌, ℕ, List, length, sym, ◌∙◌, ap}
 use Rattle.gx_bytes.specs.Fields.{le64, length-le64}
 use Rattle.gx_gin_scan.proofs.postings.root_in.Goals as goal
 

@@ -1,11 +1,8 @@
-use Rattle.std.proofs.Common.{◌≡◌, ◌≤◌, ◌+◌, ◌∷◌, ℕ, List, length, Option, Some, None, refl, sym, ◌∙◌, ap, subst, arith}
+use Rattle.std.proofs.Common.{◌≤◌, ◌+◌, ℕ, List, length, Option, sym, ◌∙◌, ap, subst, arith}
 use Rattle.std.proofs.lemmas.Result.{on_ok_weaker, IfOk-weaker, IfErr-weaker, err_from_is_err_and}
-use Rattle.gx_words.specs.PageMap.{PageMap}
-use Rattle.gx_pages.specs.declared.row.RowRef.{RowRef}
-use Rattle.gx_pages.proofs.Footprints.{cause_weaker, quiet_join}
+use Rattle.gx_pages.proofs.Footprints.{cause_weaker}
 use Rattle.gx_gin_entry.specs.EntryTrees.{HoldsMap, IsFound}
-use Rattle.gx_gin_scan.specs.Gins.{HoldsLists, IsPosting, pages_under}
-use Rattle.gx_gin_scan.specs.Lists.{Lists, rows_under}
+use Rattle.gx_gin_scan.specs.Lists.{rows_under}
 use Rattle.gx_gin_scan.proofs.Held.{key_none, key_some, posting_at}
 use Rattle.gx_gin_scan.proofs.postings.rows_of_key.Goals as goal
 

@@ -1,4 +1,4 @@
-use Rattle.std.proofs.Common.{◌≡◌, ◌∷◌, [], ◌++◌, List, sym, ◌∙◌, ap, subst, refl}
+use Rattle.std.proofs.Common.{◌++◌, List, ◌∙◌, ap}
 use Rattle.gx_pages.specs.declared.row.RowRef.{RowRef}
 use Rattle.gx_posting.proofs.PostingFacts.{one_spelled}
 use Rattle.gx_gin_scan.proofs.postings.rows_of_list.Goals as goal

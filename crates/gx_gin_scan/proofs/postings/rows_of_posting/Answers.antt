@@ -1,10 +1,7 @@
-use Rattle.std.proofs.Common.{◌≡◌, ◌≤◌, ◌+◌, ◌^◌, ◌∷◌, ℕ, List, length, Some, sym, ◌∙◌, ap, subst, arith}
+use Rattle.std.proofs.Common.{ℕ, sym, subst, arith}
 use Rattle.std.proofs.lemmas.Result.{on_ok_weaker, IfOk-weaker, IfErr-weaker}
-use Rattle.gx_bytes.specs.Fields.{le64}
-use Rattle.gx_pages.specs.declared.row.RowRef.{RowRef}
 use Rattle.gx_pages.proofs.Footprints.{cause_weaker}
 use Rattle.gx_posting_tree.specs.PostingTrees.{HoldsList}
-use Rattle.gx_gin_scan.specs.Gins.{IsPosting}
 use Rattle.gx_gin_scan.proofs.Held.{of_tree}
 use Rattle.gx_gin_scan.proofs.postings.rows_of_posting.Goals as goal
 

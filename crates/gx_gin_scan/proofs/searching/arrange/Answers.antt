@@ -1,11 +1,9 @@
-use Rattle.std.proofs.Common.{◌≡◌, ℕ, List, Contains, sym, subst, rules}
-use Rattle.std.specs.Prelude.{◌↔◌}
+use Rattle.std.proofs.Common.{◌≡◌, ℕ, List, sym, subst, rules}
 use Rattle.std.proofs.lemmas.Fn.{always_returns_same}
 use Rattle.std.proofs.lemmas.Result.{IfOk-weaker}
 use Rattle.std.proofs.lemmas.List.Sorted.{Contains-permutation, IsNonDecreasingBy-from_sort, IsPermutation-sym}
 use Rattle.std.specs.List.Sorted.{IsNonDecreasingBy, IsPermutation}
 use Rattle.gx_pages.specs.declared.row.RowRef.{RowRef}
-use Rattle.gx_pages.specs.Rows.{HasNumber}
 use Rattle.gx_gin_scan.proofs.Walked.{numbers_moved}
 use Rattle.gx_gin_scan.proofs.searching.arrange.Goals as goal
 

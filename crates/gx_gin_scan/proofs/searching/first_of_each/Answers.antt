@@ -1,6 +1,6 @@
-use Rattle.std.proofs.Common.{◌≡◌, ⊎_elim, ℕ, List, [], length, get_or, refl, sym, ◌∙◌, subst, ap, arith}
+use Rattle.std.proofs.Common.{⊎_elim, get_or}
 use Rattle.gx_pages.specs.declared.row.RowRef.{RowRef}
-use Rattle.gx_gin_scan.proofs.Walked.{Firsts, below_or, firsts_added, firsts_left, firsts_none, take_whole}
+use Rattle.gx_gin_scan.proofs.Walked.{below_or, firsts_added, firsts_left}
 use Rattle.gx_gin_scan.proofs.searching.first_of_each.Goals as goal
 
 abbrev zero_row : RowRef

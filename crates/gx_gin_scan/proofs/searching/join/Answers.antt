@@ -1,4 +1,4 @@
-use Rattle.std.proofs.Common.{◌≡◌, ◌++◌, List, get_or, take, sym, ◌∙◌, ap}
+use Rattle.std.proofs.Common.{◌++◌, List, take, sym, ◌∙◌, ap}
 use Rattle.gx_pages.specs.declared.row.RowRef.{RowRef}
 use Rattle.gx_gin_scan.specs.Searches.{joined}
 use Rattle.gx_gin_scan.proofs.Walked.{joined_next}

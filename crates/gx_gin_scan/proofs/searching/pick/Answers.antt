@@ -1,6 +1,6 @@
 use Rattle.std.proofs.Common.{◌≡◌, ◌<◌, ◌++◌, ◌∷◌, [], Bool, cond, List, length, get_or, take, sym, ◌∙◌, ap, subst}
 use Rattle.gx_pages.specs.declared.row.RowRef.{RowRef}
-use Rattle.gx_pages.specs.Rows.{AreBelow, IsRising}
+use Rattle.gx_pages.specs.Rows.{AreBelow}
 use Rattle.gx_gin_scan.specs.Lists.{isnt_no}
 use Rattle.gx_gin_scan.specs.Searches.{marks, picked}
 use Rattle.gx_gin_scan.proofs.Walked.{picked_below, picked_next}

@@ -1,6 +1,6 @@
-use Rattle.std.proofs.Common.{◌≡◌, ◌≤◌, ◌+◌, ◌∷◌, ℕ, List, length, sym, ◌∙◌, ap, subst, arith}
+use Rattle.std.proofs.Common.{◌≡◌, ℕ, List, length, ◌∙◌, ap, arith}
 use Rattle.std.proofs.lemmas.Result.{on_ok_weaker, IfOk-weaker}
-use Rattle.gx_gin_scan.specs.Gins.{HoldsLists, pages_under}
+use Rattle.gx_gin_scan.specs.Gins.{pages_under}
 use Rattle.gx_gin_scan.specs.Lists.{rows_under}
 use Rattle.gx_gin_scan.specs.Searches.{item_key}
 use Rattle.gx_gin_scan.proofs.searching.rows_of_item.Goals as goal

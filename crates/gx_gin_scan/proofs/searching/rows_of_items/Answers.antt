@@ -1,12 +1,10 @@
-use Rattle.std.proofs.Common.{◌≡◌, ◌≤◌, ◌+◌, ◌++◌, ◌∷◌, [], ◌∙◌, ℕ, List, length, map, take, refl, sym, ap, subst, length-append, arith}
+use Rattle.std.proofs.Common.{◌++◌, ◌∷◌, [], ◌∙◌, ℕ, List, length, map, take, sym, ap, length-append, arith}
 use Rattle.std.proofs.lemmas.Result.{err_from_is_err_and}
 use Rattle.gx_pages.specs.declared.row.RowRef.{RowRef}
-use Rattle.gx_pages.proofs.Footprints.{cause_weaker, quiet_join, quiet_none}
-use Rattle.gx_gin_scan.specs.Gins.{HoldsLists}
-use Rattle.gx_gin_scan.specs.Lists.{Lists, rows_under}
-use Rattle.gx_gin_scan.specs.Searches.{item_key, lists_of, pages_read}
+use Rattle.gx_pages.proofs.Footprints.{cause_weaker, quiet_join}
+use Rattle.gx_gin_scan.specs.Searches.{item_key, lists_of}
 use Rattle.gx_gin_scan.proofs.Walked.{take_whole}
-use Rattle.gx_gin_scan.proofs.Reading.{Bounds, bounds_at, bounds_join, bounds_same, keys_push, lists_at, lists_push, take_got}
+use Rattle.gx_gin_scan.proofs.Reading.{bounds_at, bounds_join, bounds_same, keys_push, lists_at, lists_push}
 use Rattle.gx_gin_scan.proofs.searching.rows_of_items.Goals as goal
 
 pub returns-in_err-rows-clause-cause : goal.returns-in_err-rows-clause-cause

@@ -1,4 +1,4 @@
-use Rattle.std.proofs.Common.{◌≡◌, ◌∷◌, [], ℕ, List, sym, subst}
+use Rattle.std.proofs.Common.{◌∷◌, [], ℕ, List, sym, subst}
 use Rattle.gx_pages.specs.Footprints.{KeepsPages}
 use Rattle.gx_gin_scan.specs.Gins.{HoldsGin}
 use Rattle.gx_gin_scan.specs.Lists.{IsIndexOf}

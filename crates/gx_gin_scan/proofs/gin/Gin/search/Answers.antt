@@ -1,9 +1,8 @@
-use Rattle.std.proofs.Common.{◌≡◌, ◌≤◌, ◌+◌, ◌++◌, ◌∙◌, ℕ, List, map, refl, sym, ap, arith}
+use Rattle.std.proofs.Common.{◌++◌, ◌∙◌, ℕ, List, map, sym, ap, arith}
 use Rattle.std.proofs.lemmas.Result.{IfOk-weaker, err_from_is_err_and}
-use Rattle.gx_pages.specs.declared.row.RowRef.{RowRef}
 use Rattle.gx_pages.proofs.Footprints.{cause_weaker}
 use Rattle.gx_gin.specs.declared.wanted.Mode.{Mode}
-use Rattle.gx_gin_scan.specs.Searches.{item_key, keys_read, lists_of, more_keys}
+use Rattle.gx_gin_scan.specs.Searches.{item_key, keys_read, more_keys}
 use Rattle.gx_gin_scan.proofs.Founds.{search_finds}
 use Rattle.gx_gin_scan.proofs.Reading.{bounds_at, bounds_join, bounds_same, lists_at}
 use Rattle.gx_gin_scan.proofs.gin.Gin.search.Goals as goal
