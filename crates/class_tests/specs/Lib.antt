@@ -1,2 +1,1 @@
 pub mod ValidKeys
-pub mod Words

@@ -8,8 +8,6 @@ mod class_range;
 #[cfg(test)]
 mod class_scalar;
 #[cfg(test)]
-mod gin;
-#[cfg(test)]
 mod gist;
 #[cfg(test)]
 mod scalar;

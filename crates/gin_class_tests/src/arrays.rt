@@ -13,13 +13,13 @@ use std::test::Fail;
 
 const VALUES: [&str; 4] = ["{}", "{1,2}", "{2,1}", "{3}"];
 
-fn array_of(alloc: Global, text: &str) -> Result<IntArray, ValueError>
+pub fn array_of(alloc: Global, text: &str) -> Result<IntArray, ValueError>
     ensures { IfOk result IsArray }
 {
     IntArray::read(alloc, text)
 }
 
-fn array_query(alloc: Global, sign: &str, text: &str) -> Result<IntQuery, ValueError>
+pub fn array_query(alloc: Global, sign: &str, text: &str) -> Result<IntQuery, ValueError>
     ensures { IfOk result IsArrayQuery }
 {
     let operand = array_of(alloc, text)?;
@@ -31,7 +31,7 @@ fn array_query(alloc: Global, sign: &str, text: &str) -> Result<IntQuery, ValueE
     })
 }
 
-fn formula(alloc: Global, text: &str) -> Result<IntQuery, ValueError>
+pub fn formula(alloc: Global, text: &str) -> Result<IntQuery, ValueError>
     ensures { IfOk result IsQuery }
 {
     let query = QueryInt::read(alloc, text)?;

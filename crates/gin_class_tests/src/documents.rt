@@ -22,13 +22,13 @@ const VALUES: [&str; 6] = [
     "[]",
 ];
 
-fn document_of(alloc: Global, text: &str) -> Result<Json, ValueError>
+pub fn document_of(alloc: Global, text: &str) -> Result<Json, ValueError>
     ensures { IfOk result (λ d. IsDocument (data_of d)) }
 {
     Json::read(alloc, text)
 }
 
-fn query_of(alloc: Global, sign: &str, text: &str) -> Result<JsonQuery, ValueError>
+pub fn query_of(alloc: Global, sign: &str, text: &str) -> Result<JsonQuery, ValueError>
     ensures { IfOk result IsQuery }
 {
     Ok(match sign {
@@ -39,7 +39,7 @@ fn query_of(alloc: Global, sign: &str, text: &str) -> Result<JsonQuery, ValueErr
     })
 }
 
-fn containment(alloc: Global, text: &str) -> Result<JsonQuery, ValueError>
+pub fn containment(alloc: Global, text: &str) -> Result<JsonQuery, ValueError>
     ensures { IfOk result IsPathQuery }
 {
     Ok(JsonQuery::Contains(document_of(alloc, text)?))

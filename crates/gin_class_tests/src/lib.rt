@@ -1,4 +1,4 @@
-//! Tests of the operator classes of GIN on worked values.
+//! Tests of the operator classes of GIN on worked values, and of indexes of seeded values.
 #![tactic(auto)]
 
 #[cfg(test)]
@@ -8,4 +8,10 @@ mod candidates;
 #[cfg(test)]
 mod documents;
 #[cfg(test)]
+mod indexes;
+#[cfg(test)]
+mod items;
+#[cfg(test)]
 mod maps;
+#[cfg(test)]
+mod seeds;

@@ -16,13 +16,13 @@ use std::test::Fail;
 
 const VALUES: [&str; 4] = ["a=>1", "a=>NULL", "", "b=>1"];
 
-fn map_of(alloc: Global, text: &str) -> Result<Hstore, ValueError>
+pub fn map_of(alloc: Global, text: &str) -> Result<Hstore, ValueError>
     ensures { IfOk result IsHstore }
 {
     Hstore::read(alloc, text)
 }
 
-fn query_of(alloc: Global, sign: &str, text: &str) -> Result<HstoreQuery, ValueError>
+pub fn query_of(alloc: Global, sign: &str, text: &str) -> Result<HstoreQuery, ValueError>
     ensures { IfOk result IsQuery }
 {
     Ok(match sign {

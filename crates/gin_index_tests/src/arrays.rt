@@ -15,13 +15,13 @@ use gx_posting_tree::PostingTree;
 use std::alloc::Global;
 use std::test::Fail;
 
-fn array_of(alloc: Global, text: &str) -> Result<IntArray, ValueError>
+pub fn array_of(alloc: Global, text: &str) -> Result<IntArray, ValueError>
     ensures { IfOk result IsArray }
 {
     IntArray::read(alloc, text)
 }
 
-fn array_query(alloc: Global, sign: &str, text: &str) -> Result<IntQuery, ValueError>
+pub fn array_query(alloc: Global, sign: &str, text: &str) -> Result<IntQuery, ValueError>
     ensures { IfOk result IsArrayQuery }
 {
     let operand = array_of(alloc, text)?;
@@ -33,7 +33,7 @@ fn array_query(alloc: Global, sign: &str, text: &str) -> Result<IntQuery, ValueE
     })
 }
 
-fn row_of(number: u64) -> RowRef {
+pub fn row_of(number: u64) -> RowRef {
     RowRef {
         number,
         page: 7,
