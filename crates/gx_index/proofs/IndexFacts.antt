@@ -1,7 +1,7 @@
 -- An index changes where one of its two parts does.
-use Rattle.std.proofs.Common.{◌≡◌, ◌≢◌, ◌⊎◌, ⊎_elim, ℕ, ◌+◌, ◌<◌, ◌≤◌, Bool, true, false, ◌||◌, cond, List, [], ◌∷◌, ◌++◌, map, filter, Option, Some, None, refl, sym, ◌∙◌, ap, subst, append-nil, arith}
+use Rattle.std.proofs.Common.{◌≡◌, ⊎_elim, ℕ, ◌<◌, Bool, true, false, ◌||◌, cond, List, [], ◌∷◌, ◌++◌, filter, Some, None, refl, sym, ◌∙◌, ap, subst, append-nil, arith}
 use Rattle.std.specs.Prelude.{is_none}
-use Rattle.std.specs.List.{AllByRecursion, filter_map}
+use Rattle.std.specs.List.{AllByRecursion}
 use Rattle.std.specs.Option.{option_map}
 use Rattle.std.proofs.lemmas.List.Elements.{filter_map-append}
 use Rattle.gx_words.specs.PageMap.{PageMap}
@@ -10,7 +10,7 @@ use Rattle.gx_pages.specs.declared.store.Pages.{Ghosts}
 use Rattle.gx_pages.specs.Footprints.{KeepsPages}
 use Rattle.gx_pages.specs.Frees.{IsApart}
 use Rattle.gx_pages.specs.Rows.{AreBelow}
-use Rattle.gx_pages.proofs.Footprints.{times, times-append, keeps_join}
+use Rattle.gx_pages.proofs.Footprints.{times-append, keeps_join, kept_beside, all_join}
 use Rattle.gx_value.specs.Values.{Datum}
 use Rattle.gx_index.specs.Beside.{Beside}
 use Rattle.gx_index.specs.Indexed.{Field, HoldsIndex, valued, nulls_of}
@@ -213,3 +213,32 @@ module _ {P : Type 0} (p : Ghosts P) (Holds : List Valued → PageMap → ℕ �
   pub both_changed : {old mid new : P} {nulls root : ℕ} {half rows : List Field} {feet free : List ℕ} (first : Makes old mid nulls half feet free) → Makes mid new root rows first.0 first.1 → Makes old new root rows feet free
   both_changed {old} {mid} {new} {feet = feet} {free = free} first second =
       (second.0, second.1, second.2, keeps_join p old mid new feet free first.0 first.1 second.0 second.1 first.3 second.3)
+
+  -- It stands beside another structure that changed.
+  pub index_stays : {old : P} {nulls : ℕ} {rows : List Field} {feet free : List ℕ} (h : Index old nulls rows feet free) (new : P) (before after rest : List ℕ) → KeepsPages p old new before free after rest
+      → IsApart (before ++ free ++ feet) → AllByRecursion (λ page. page < p.count old) before → AllByRecursion (λ page. page < p.count old) feet
+      → (IsApart (before ++ free ++ h.held.values) → Beside p (Holds (valued rows)) new h.held.values rest)
+      → (IsApart (before ++ free ++ h.held.others) → HoldsNulls (p.map new) (p.count new) nulls (nulls_of rows) h.held.others) → Index new nulls rows feet rest
+  index_stays {old} {nulls} {rows} {feet} {free} h new before after rest keeps apart low below values null =
+      let a = h.held.values in
+      let b = h.held.others in
+      let whole : IsApart (before ++ free ++ (a ++ b)) = subst (λ (f : List ℕ). IsApart (before ++ free ++ f)) h.held.stand apart in
+      let kept = values
+      (apart_by (before ++ free ++ (a ++ b)) (before ++ free ++ a)
+      (λ n. let x = times-append n (before ++ free) (a ++ b) in let y = times-append n a b in let z = times-append n (before ++ free) a in omega (arith, x, y, z)) whole) in
+      let beside = kept_beside p old new before free after rest feet keeps apart
+      (all_join (λ (page : ℕ). page < p.count old) (before ++ free) feet (all_join (λ (page : ℕ). page < p.count old) before free low h.frees.below) below) in
+      record {
+        held = record {
+          values = a;
+          others = b;
+          stand = h.held.stand;
+          kept = kept.held;
+          null = null
+              (apart_by (before ++ free ++ (a ++ b)) (before ++ free ++ b)
+              (λ n. let x = times-append n (before ++ free) (a ++ b) in let y = times-append n a b in let z = times-append n (before ++ free) b in omega (arith, x, y, z)) whole);
+        };
+        frees = keeps.frees;
+        apart = apart_by (after ++ rest ++ feet) (feet ++ rest)
+            (λ n. let x = times-append n (after ++ rest) feet in let y = times-append n after rest in let z = times-append n feet rest in omega (arith, x, y, z)) beside;
+      }

@@ -1,23 +1,21 @@
 -- What rows with their keys come to.
-use Rattle.std.proofs.Common.{◌≡◌, ◌≢◌, ◌⊎◌, inl, inr, ⊎_elim, ℕ, ◌<◌, Bool, true, false, not, cond, List, [], ◌∷◌, ◌++◌, map, All, refl, sym, ◌∙◌, ap, subst, arith}
+use Rattle.std.proofs.Common.{◌≡◌, ◌≢◌, ℕ, ◌<◌, Bool, true, false, not, cond, List, [], ◌∷◌, ◌++◌, map, All, refl, sym, ◌∙◌, ap, subst, arith}
 use Rattle.std.specs.Prelude.{filter, IsPermutation}
 use Rattle.std.specs.List.{AllByRecursion}
 use Rattle.std.proofs.lemmas.List.Elements.{All-from_recursion}
 use Rattle.gx_words.specs.PageMap.{PageMap}
 use Rattle.gx_pages.specs.declared.row.RowRef.{RowRef}
 use Rattle.gx_pages.specs.declared.store.Pages.{Ghosts as PageGhosts}
-use Rattle.gx_pages.specs.Footprints.{KeepsPages}
 use Rattle.gx_pages.specs.Frees.{IsApart}
 use Rattle.gx_pages.specs.Rows.{AreBelow, IsRising}
 use Rattle.gx_pages.proofs.Rising.{rising_push}
-use Rattle.gx_catalog.specs.Validity.{IsAmong}
 use Rattle.gx_gist.specs.declared.class.GistClass.{Ghosts}
 use Rattle.gx_gist_tree.specs.Trees.{passes}
-use Rattle.gx_gist_tree.specs.OnPages.{Whole, Holds, HoldsBeside, entries_of, footprint, is_in}
+use Rattle.gx_gist_tree.specs.OnPages.{Whole, HoldsBeside, entries_of, footprint, is_in}
 use Rattle.gx_value.specs.Values.{Datum}
 use Rattle.gx_index.specs.Beside.{Beside}
 use Rattle.gx_index.specs.Kept.{HaveSame, HoldsKeys, Valued, places_of}
-use Rattle.gx_index.proofs.Among.{of_all, all_of, to, from, same_permuted, same_trans, same_cons, same_pushed, same_kept, all_kept, all_pushed, in_map, made_of, map_pushed, filter_map_is, kept_rising, same_of, same_map, same_rising, same_filter, all_under}
+use Rattle.gx_index.proofs.Among.{of_all, all_of, from, same_permuted, same_trans, same_cons, same_pushed, same_kept, all_kept, all_pushed, in_map, made_of, map_pushed, filter_map_is, kept_rising, same_map, same_rising, same_filter, all_under}
 
 -- the places of rows, whatever stands beside them
 module _ {V W : Type 0} (f : V → W) where

@@ -3,3 +3,5 @@ mod Frames
 mod IndexFacts
 mod KeyRows
 mod NullRows
+mod Questions
+pub mod ItemRows

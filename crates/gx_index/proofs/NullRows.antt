@@ -1,5 +1,5 @@
 -- NULL rows and their posting tree.
-use Rattle.std.proofs.Common.{◌≡◌, ◌≢◌, ◌⊎◌, inl, inr, ⊎_elim, ℕ, zero, suc, ◌≤◌, List, [], ◌∷◌, ◌++◌, Result, Ok, Err, IfErr, refl, sym, ◌∙◌, ap, subst, append-nil, arith}
+use Rattle.std.proofs.Common.{◌≡◌, ◌≢◌, inl, inr, ⊎_elim, ℕ, zero, suc, List, [], ◌∷◌, ◌++◌, Result, Ok, Err, IfErr, refl, sym, subst, append-nil, arith}
 use Rattle.std.specs.Prelude.{IsPermutation}
 use Rattle.std.proofs.lemmas.Result.{IfErr-weaker}
 use Rattle.gx_words.specs.PageMap.{PageMap}
@@ -12,7 +12,6 @@ use Rattle.gx_pages.specs.Footprints.{KeepsPages}
 use Rattle.gx_pages.specs.Frees.{IsApart}
 use Rattle.gx_pages.specs.Pages.{HasCause}
 use Rattle.gx_pages.proofs.Footprints.{apart_moved, cause_weaker, keeps_join, same_count}
-use Rattle.gx_tree.specs.Trees as trees
 use Rattle.gx_tree.specs.Trees.{Tree, Stand, page_of}
 use Rattle.gx_posting_tree.specs.PostingTrees.{HoldsList, HoldsRows}
 use Rattle.gx_index.specs.Beside.{Beside}

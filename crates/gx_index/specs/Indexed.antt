@@ -1,10 +1,9 @@
 -- An index: rows with their values, of which some are NULL, on pages.
-use Rattle.std.specs.Prelude.{◌≡◌, ℕ, List, ◌++◌, map, filter, Bool, true, false, Option, None, Some, is_none}
+use Rattle.std.specs.Prelude.{◌≡◌, ℕ, List, ◌++◌, filter, Option, None, Some, is_none}
 use Rattle.std.specs.List.{filter_map}
 use Rattle.std.specs.Option.{option_map}
 use Rattle.gx_words.specs.PageMap.{PageMap}
 use Rattle.gx_pages.specs.declared.row.RowRef.{RowRef}
-use Rattle.gx_pages.specs.Frees.{IsApart}
 use Rattle.gx_value.specs.Values.{Datum}
 use Rattle.gx_index.specs.Kept.{Valued, places_of}
 use Rattle.gx_index.specs.Nulls.{HoldsNulls}
@@ -21,6 +20,7 @@ abbrev pub nulls_of : List Field → List RowRef
 nulls_of rows = places_of (filter (λ row. is_none row.1) rows)
 
 -- The map holds the index with these rows on these pages: a structure of one class has those with values, and those with NULL stand below their own root page.
+-- How rows with and without values stand between each other in the list is left open: a row's number says where it belongs.
 pub record HoldsIndex (Holds : List Valued → PageMap → ℕ → List ℕ → Type 0) (nulls : ℕ) (rows : List Field) (pages : PageMap) (count : ℕ) (feet : List ℕ) : Type 0 where
   pub values : List ℕ
   pub others : List ℕ

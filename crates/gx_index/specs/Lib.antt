@@ -1,5 +1,7 @@
 pub mod Beside
+pub mod Counted
 pub mod Indexed
+pub mod Items
 pub mod Kept
-pub mod Named
 pub mod Nulls
+pub mod Questions

@@ -2,7 +2,6 @@
 use Rattle.std.specs.Prelude.{◌≡◌, ◌≢◌, ◌⊎◌, ℕ, List, []}
 use Rattle.gx_words.specs.PageMap.{PageMap}
 use Rattle.gx_pages.specs.declared.row.RowRef.{RowRef}
-use Rattle.gx_pages.specs.Rows.{IsRising}
 use Rattle.gx_posting_tree.specs.PostingTrees.{HoldsList}
 
 -- there are none, and no page for them

@@ -1,6 +1,6 @@
 //! An index of one class.
 
-ghost use Rattle.std.specs.Prelude.{◌≡◌, ℕ, ◌+◌, ◌*◌, ◌<◌, ◌≤◌, List, [], ◌∷◌, ◌++◌, filter, not, true, Option, None, Some, IfOk, IfErr, IfSome, OnOk, OnErr};
+ghost use Rattle.std.specs.Prelude.{◌≡◌, ℕ, ◌+◌, ◌*◌, ◌<◌, ◌≤◌, List, [], ◌∷◌, ◌++◌, length, filter, not, true, Option, None, Some, IfOk, IfErr, IfSome, OnOk, OnErr};
 ghost use Rattle.std.specs.List.{AllByRecursion};
 ghost use Rattle.std.specs.Option.{option_map};
 ghost use Rattle.gx_words.specs.PageMap.{PageMap};
@@ -11,16 +11,20 @@ ghost use Rattle.gx_pages.specs.Rows.{AreBelow};
 ghost use Rattle.gx_value.specs.declared.types.ColumnType.{ColumnType};
 ghost use Rattle.gx_value.specs.Classes.{takes};
 ghost use Rattle.gx_value.specs.Values.{Datum, datum_of, IsValue};
+ghost use Rattle.gx_opr.specs.Operands.{right_of};
+ghost use Rattle.gx_candidates.specs.Candidates.{candidate};
 ghost use Rattle.gx_index.specs.Beside.{Beside};
 ghost use Rattle.gx_chain.specs.Chains.{IsSound};
 ghost use Rattle.gx_gist_tree.specs.OnPages.{is_in};
-ghost use Rattle.gx_index.specs.Indexed.{Field, HoldsIndex, entries_in, nulls_of};
+ghost use Rattle.gx_index.specs.Indexed.{Field, HoldsIndex, entries_in, nulls_of, valued};
 ghost use Rattle.gx_index.specs.Kept.{Valued, places_of};
+ghost use Rattle.gx_index.specs.Questions.{IsQuestion};
 
 use crate::Kept;
 use crate::nulls::{drop_nulls, find_nulls, nulls_stay, put_null, remove_nulls};
+use gx_opr::Operand;
 use gx_pages::{Bitmap, PageError, Pages, RowRef};
-use gx_value::Value;
+use gx_value::{Operator, Value};
 use std::alloc::Global;
 
 /// An index of one class: what keeps the rows with values, and the root page of the NULL rows, which is 0 where there are none.
@@ -58,7 +62,7 @@ impl<M: Kept> Indexed<M> {
         ensures cause { IfErr result (HasCause (P.faults pages.old) (P.faults pages.new)
             (λ at expected found. P.tells → (rows : List Field) (feet free : List ℕ) → Beside P.Pages (HoldsIndex (M.holds self.old.kept) self.old.nulls rows) pages.old feet free → AreBelow (places_of rows) row.number → ⊥)
             (IsFull P.tells (P.map pages.new) (P.count pages.new)) (Unit {0})) }
-        ensures heap { P.tells → (rows : List Field) (feet free : List ℕ) → Beside P.Pages (HoldsIndex (M.holds self.old.kept) self.old.nulls rows) pages.old feet free
+        ensures heap { P.tells → (rows : List Field) (feet free : List ℕ) → Beside P.Pages (HoldsIndex (M.holds self.old.kept) self.old.nulls rows) pages.old feet free → AreBelow (places_of rows) row.number
             → P.heap_fetches pages.new ≡ P.heap_fetches pages.old }
         ensures quiet { StaysQuiet P.Pages pages.old pages.new }
     {
@@ -100,6 +104,8 @@ impl<M: Kept> Indexed<M> {
     /// The rows whose value is NULL.
     pub fn find_nulls<P: Pages>(&self, alloc: Global, pages: &mut P) -> Result<Bitmap, PageError>
         ensures found { IfOk result (λ found. P.tells → (rows : List Field) (feet : List ℕ) → HoldsIndex (M.holds self.now.kept) self.now.nulls rows (P.map pages.old) (P.count pages.old) feet → found ≡ nulls_of rows) }
+        ensures fetches { OnOk result (P.tells → (rows : List Field) (feet : List ℕ) (held : HoldsIndex (M.holds self.now.kept) self.now.nulls rows (P.map pages.old) (P.count pages.old) feet)
+            → P.fetches pages.new ≤ P.fetches pages.old + length held.others) }
         ensures cause { IfErr result (HasCause (P.faults pages.old) (P.faults pages.new)
             (λ at expected found. P.tells → (rows : List Field) (feet : List ℕ) → HoldsIndex (M.holds self.now.kept) self.now.nulls rows (P.map pages.old) (P.count pages.old) feet → ⊥) (λ _. ⊥) (Unit {0})) }
         ensures map { P.map pages.new ≡ P.map pages.old }
@@ -108,6 +114,32 @@ impl<M: Kept> Indexed<M> {
         ensures quiet { StaysQuiet P.Pages pages.old pages.new }
     {
         find_nulls(alloc, pages, self.nulls)
+    }
+
+    /// The rows whose value isn't NULL and may be one that the operator with its operand holds of, by rising numbers: those that the keys don't
+    /// rule out.
+    pub fn search<P: Pages>(
+        &self,
+        alloc: Global,
+        pages: &mut P,
+        op: Operator,
+        operand: &Operand,
+    ) -> Result<Bitmap, PageError>
+        requires class { M.valid self.now.kept }
+        requires question { IsQuestion (M.named self.now.kept) (M.parameter self.now.kept) op operand.now }
+        ensures found { IfOk result (λ found. P.tells → (rows : List Field) (feet : List ℕ) → HoldsIndex (M.holds self.now.kept) self.now.nulls rows (P.map pages.old) (P.count pages.old) feet
+            → found ≡ places_of (filter (λ row. candidate (M.named self.now.kept) (M.parameter self.now.kept) op (right_of operand.now.part) row.1) (valued rows))) }
+        ensures fetches { OnOk result (P.tells → (rows : List Valued) (feet : List ℕ) (most : ℕ) → M.visits self.now.kept op operand.now rows (P.map pages.old) (P.count pages.old) feet most
+            → P.fetches pages.new ≤ P.fetches pages.old + most) }
+        ensures cause { IfErr result (HasCause (P.faults pages.old) (P.faults pages.new)
+            (λ at expected found. P.tells → (rows : List Field) (feet : List ℕ) → HoldsIndex (M.holds self.now.kept) self.now.nulls rows (P.map pages.old) (P.count pages.old) feet → ⊥) (λ _. ⊥) (Unit {0})) }
+        ensures map { P.map pages.new ≡ P.map pages.old }
+        ensures count { P.count pages.new ≡ P.count pages.old }
+        ensures heap { P.tells → (rows : List Field) (feet : List ℕ) → HoldsIndex (M.holds self.now.kept) self.now.nulls rows (P.map pages.old) (P.count pages.old) feet
+            → P.heap_fetches pages.new ≡ P.heap_fetches pages.old }
+        ensures quiet { StaysQuiet P.Pages pages.old pages.new }
+    {
+        self.kept.find(alloc, pages, op, operand)
     }
 
     /// Takes out the rows with these numbers. The count of pages stays; where no NULL row is left their pages are given back.
@@ -121,6 +153,7 @@ impl<M: Kept> Indexed<M> {
         ensures removed { OnOk result (P.tells → (rows : List Field) (feet free : List ℕ) → Beside P.Pages (HoldsIndex (M.holds self.old.kept) self.old.nulls rows) pages.old feet free
             → (later : List ℕ) × (rest : List ℕ) × Beside P.Pages (HoldsIndex (M.holds self.old.kept) self.new.nulls (filter (λ row. not (is_in gone.now row.0.number)) rows)) pages.new later rest
             × KeepsPages P.Pages pages.old pages.new feet free later rest) }
+        ensures same { OnErr result (self.new ≡ self.old) }
         ensures kept { self.new.kept ≡ self.old.kept }
         ensures count { P.count pages.new ≡ P.count pages.old }
         ensures cause { IfErr result (HasCause (P.faults pages.old) (P.faults pages.new)
@@ -141,6 +174,18 @@ impl<M: Kept> Indexed<M> {
             },
             Err(error) => Err(error),
         }
+    }
+
+    /// The pages of the index are below the count. It stays where another structure changes, whose pages lie apart from its own.
+    pub fn stays<P: Pages>(&self, pages: &P)
+        ensures below { (rows : List Field) (map : PageMap) (count : ℕ) (feet : List ℕ) → HoldsIndex (M.holds self.now.kept) self.now.nulls rows map count feet
+            → AllByRecursion (λ page. page < count) feet }
+        ensures stays { (old new : P) (rows : List Field) (feet before free after rest : List ℕ) → Beside P.Pages (HoldsIndex (M.holds self.now.kept) self.now.nulls rows) old feet free
+            → KeepsPages P.Pages old new before free after rest → IsApart (before ++ free ++ feet) → AllByRecursion (λ page. page < P.count old) before
+            → Beside P.Pages (HoldsIndex (M.holds self.now.kept) self.now.nulls rows) new feet rest }
+    {
+        nulls_stay(pages);
+        self.kept.stays(pages);
     }
 
     /// Gives every page back. There is no index then.

@@ -2,25 +2,33 @@
 
 ghost use Rattle.gx_value.specs.declared.classes.Class.TheVariants.{RangeOps, InetOps, GistLtree, GistHstore, GistInt, GistIntbig};
 ghost use Rattle.gx_value.specs.Values.{scalar, range, inet, path, hstore, int_array};
-ghost use Rattle.gx_index.specs.Named.{scalar_class};
+ghost use Rattle.gx_candidates.specs.Laws.{scalar_class};
 
 use crate::KeyClass;
-use gx_class_inet::InetClass;
+use gx_bytes::NoMemory;
+use gx_candidates::{
+    inet_query, map_query, path_query, questions_are_valid, range_query, scalar_query, set_query,
+};
+use gx_class_inet::{InetClass, InetQuery};
 use gx_class_intset::IntClass;
-use gx_class_ltree::LtreeClass;
-use gx_class_range::RangeClass;
-use gx_class_scalar::ScalarClass;
-use gx_class_sets::{HstoreClass, IntbigClass};
+use gx_class_ltree::{LtreeClass, LtreeQuery};
+use gx_class_range::{RangeClass, RangeQuery};
+use gx_class_scalar::{ScalarClass, ScalarQuery};
+use gx_class_sets::{HstoreClass, HstoreQuery, IntQuery, IntbigClass};
 use gx_hstore::Hstore;
 use gx_inet::Inet;
 use gx_intarr::IntArray;
 use gx_ltree::Path;
+use gx_opr::Operand;
 use gx_range::Range;
 use gx_scalar::Scalar;
-use gx_value::Value;
+use gx_value::{Operator, Value};
+use std::alloc::Global;
 
 impl KeyClass for ScalarClass {
     ghost named = { λ c. scalar_class c.kind };
+
+    ghost parameter = { λ _. 0 };
 
     ghost datum = { λ v. scalar v };
 
@@ -30,10 +38,22 @@ impl KeyClass for ScalarClass {
             _ => None,
         }
     }
+
+    fn query_for(
+        &self,
+        alloc: Global,
+        op: Operator,
+        operand: &Operand,
+    ) -> Result<Option<ScalarQuery>, NoMemory> {
+        questions_are_valid();
+        scalar_query(alloc, op, operand)
+    }
 }
 
 impl KeyClass for RangeClass {
     ghost named = { λ _. RangeOps };
+
+    ghost parameter = { λ _. 0 };
 
     ghost datum = { λ v. range v };
 
@@ -43,10 +63,22 @@ impl KeyClass for RangeClass {
             _ => None,
         }
     }
+
+    fn query_for(
+        &self,
+        _alloc: Global,
+        op: Operator,
+        operand: &Operand,
+    ) -> Result<Option<RangeQuery>, NoMemory> {
+        questions_are_valid();
+        Ok(range_query(op, operand))
+    }
 }
 
 impl KeyClass for InetClass {
     ghost named = { λ _. InetOps };
+
+    ghost parameter = { λ _. 0 };
 
     ghost datum = { λ v. inet v };
 
@@ -56,10 +88,22 @@ impl KeyClass for InetClass {
             _ => None,
         }
     }
+
+    fn query_for(
+        &self,
+        _alloc: Global,
+        op: Operator,
+        operand: &Operand,
+    ) -> Result<Option<InetQuery>, NoMemory> {
+        questions_are_valid();
+        Ok(inet_query(op, operand))
+    }
 }
 
 impl<const N: usize> KeyClass for LtreeClass<N> {
     ghost named = { λ _. GistLtree };
+
+    ghost parameter = { λ _. N };
 
     ghost datum = { λ v. path v };
 
@@ -69,10 +113,22 @@ impl<const N: usize> KeyClass for LtreeClass<N> {
             _ => None,
         }
     }
+
+    fn query_for(
+        &self,
+        alloc: Global,
+        op: Operator,
+        operand: &Operand,
+    ) -> Result<Option<LtreeQuery>, NoMemory> {
+        questions_are_valid();
+        path_query(alloc, op, operand)
+    }
 }
 
 impl<const N: usize> KeyClass for HstoreClass<N> {
     ghost named = { λ _. GistHstore };
+
+    ghost parameter = { λ _. N };
 
     ghost datum = { λ v. hstore v };
 
@@ -82,10 +138,22 @@ impl<const N: usize> KeyClass for HstoreClass<N> {
             _ => None,
         }
     }
+
+    fn query_for(
+        &self,
+        alloc: Global,
+        op: Operator,
+        operand: &Operand,
+    ) -> Result<Option<HstoreQuery>, NoMemory> {
+        questions_are_valid();
+        map_query(alloc, op, operand)
+    }
 }
 
 impl KeyClass for IntClass {
     ghost named = { λ _. GistInt };
+
+    ghost parameter = { λ c. c.numranges };
 
     ghost datum = { λ v. int_array v };
 
@@ -95,10 +163,22 @@ impl KeyClass for IntClass {
             _ => None,
         }
     }
+
+    fn query_for(
+        &self,
+        alloc: Global,
+        op: Operator,
+        operand: &Operand,
+    ) -> Result<Option<IntQuery>, NoMemory> {
+        questions_are_valid();
+        set_query(alloc, op, operand)
+    }
 }
 
 impl<const N: usize> KeyClass for IntbigClass<N> {
     ghost named = { λ _. GistIntbig };
+
+    ghost parameter = { λ _. N };
 
     ghost datum = { λ v. int_array v };
 
@@ -107,5 +187,15 @@ impl<const N: usize> KeyClass for IntbigClass<N> {
             Value::IntArray(found) => Some(found),
             _ => None,
         }
+    }
+
+    fn query_for(
+        &self,
+        alloc: Global,
+        op: Operator,
+        operand: &Operand,
+    ) -> Result<Option<IntQuery>, NoMemory> {
+        questions_are_valid();
+        set_query(alloc, op, operand)
     }
 }

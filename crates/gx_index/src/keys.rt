@@ -12,19 +12,27 @@ ghost use Rattle.gx_value.specs.declared.classes.Class.{Class};
 ghost use Rattle.gx_value.specs.declared.types.ColumnType.{ColumnType};
 ghost use Rattle.gx_value.specs.Classes.{takes};
 ghost use Rattle.gx_value.specs.Values.{Datum, datum_of, IsValue};
+ghost use Rattle.gx_opr.specs.Operands.{right_of};
+ghost use Rattle.gx_candidates.specs.Queries.{Asks, asks};
 ghost use Rattle.gx_index.specs.Beside.{Beside};
 ghost use Rattle.gx_index.specs.Kept.{HoldsKeys, Valued, places_of};
+ghost use Rattle.gx_index.specs.Questions.{IsQueryFor};
 
+use gx_bytes::NoMemory;
 use gx_gist::{GistClass, OnBytes};
 use gx_gist_tree::Tree;
+use gx_opr::Operand;
 use gx_pages::{Bitmap, PageError, Pages, RowRef};
-use gx_value::Value;
+use gx_value::{Operator, Value};
 use std::alloc::Global;
 
 /// A GiST class that a column's index can have.
 pub trait KeyClass: OnBytes {
     // The class's line in the table of classes.
     ghost named: { Self → Class };
+
+    // Its parameter: how many bytes a signature has, or how many intervals a key; 0 where it has none.
+    ghost parameter: { Self → ℕ };
 
     // What a value of the class is among the values of columns.
     ghost datum: { Self.Value → Datum };
@@ -34,6 +42,16 @@ pub trait KeyClass: OnBytes {
         ensures same { IfSome result (λ found. datum found.now ≡ datum_of value.now) }
         ensures valid { (kind : ColumnType) → takes (named self.now) kind ≡ true → IsValue kind (datum_of value.now) → IfSome result (λ found. Self.valid_value self.now found.now) }
         ensures none { IfNone result ((kind : ColumnType) → takes (named self.now) kind ≡ true → IsValue kind (datum_of value.now) → ⊥) };
+
+    /// What the class is asked for an operator with its operand; `None` where it lacks the operator with such an operand.
+    fn query_for(
+        &self,
+        alloc: Global,
+        op: Operator,
+        operand: &Operand,
+    ) -> Result<Option<Self::Query>, NoMemory>
+        ensures { IfOk result (λ made. Asks (asks (named self.now) op (right_of operand.now.part))
+            (IsQueryFor Self.GistClass self.now datum (named self.now) (parameter self.now) op operand.now) made) };
 }
 
 /// An index without rows, on a page that it takes.

@@ -1,7 +1,8 @@
 //! The rows of an index whose value is NULL: a posting tree of their own, and no page where there are none.
 
-ghost use Rattle.std.specs.Prelude.{◌≡◌, ◌≢◌, ℕ, ◌+◌, ◌<◌, ◌≤◌, List, [], ◌∷◌, ◌++◌, true, IfOk, IfErr, OnOk};
+ghost use Rattle.std.specs.Prelude.{◌≡◌, ◌≢◌, ℕ, ◌+◌, ◌<◌, ◌≤◌, List, [], ◌∷◌, ◌++◌, length, true, IfOk, IfErr, OnOk};
 ghost use Rattle.std.specs.List.{AllByRecursion};
+ghost use Rattle.gx_words.specs.PageMap.{PageMap};
 ghost use Rattle.gx_pages.specs.declared.row.RowRef.{RowRef};
 ghost use Rattle.gx_pages.specs.Footprints.{KeepsPages, StaysQuiet};
 ghost use Rattle.gx_pages.specs.Frees.{IsApart, IsFull};
@@ -50,6 +51,8 @@ fn first_null<P: Pages>(alloc: Global, pages: &mut P, row: RowRef) -> Result<u64
 /// The rows below this root page, which is 0 where there are none.
 pub fn find_nulls<P: Pages>(alloc: Global, pages: &mut P, nulls: u64) -> Result<Bitmap, PageError>
     ensures found { IfOk result (λ found. P.tells → (rows : List RowRef) (feet : List ℕ) → HoldsNulls (P.map pages.old) (P.count pages.old) nulls rows feet → found ≡ rows) }
+    ensures fetches { OnOk result (P.tells → (rows : List RowRef) (feet : List ℕ) → HoldsNulls (P.map pages.old) (P.count pages.old) nulls rows feet
+        → P.fetches pages.new ≤ P.fetches pages.old + length feet) }
     ensures cause { IfErr result (HasCause (P.faults pages.old) (P.faults pages.new)
         (λ at expected found. P.tells → (rows : List RowRef) (feet : List ℕ) → HoldsNulls (P.map pages.old) (P.count pages.old) nulls rows feet → ⊥) (λ _. ⊥) (Unit {0})) }
     ensures map { P.map pages.new ≡ P.map pages.old }
@@ -138,9 +141,10 @@ pub fn drop_nulls<P: Pages>(alloc: Global, pages: &mut P, nulls: u64) -> Result<
     PostingTree::at(nulls).drop_all(alloc, pages)
 }
 
-/// The NULL rows stay where another structure changes, whose pages lie apart from theirs.
+/// The pages of the NULL rows are below the count. The rows stay where another structure changes, whose pages lie apart from theirs.
 pub fn nulls_stay<P: Pages>(pages: &P)
-    ensures { (old new : P) (nulls : ℕ) (rows : List RowRef) (feet before free after rest : List ℕ) → HoldsNulls (P.map old) (P.count old) nulls rows feet
+    ensures below { (nulls : ℕ) (rows : List RowRef) (map : PageMap) (count : ℕ) (feet : List ℕ) → HoldsNulls map count nulls rows feet → AllByRecursion (λ page. page < count) feet }
+    ensures stays { (old new : P) (nulls : ℕ) (rows : List RowRef) (feet before free after rest : List ℕ) → HoldsNulls (P.map old) (P.count old) nulls rows feet
         → KeepsPages P.Pages old new before free after rest → IsApart (before ++ free ++ feet) → HoldsNulls (P.map new) (P.count new) nulls rows feet }
 {
     tree_stays(pages);

@@ -2,8 +2,8 @@ use Rattle.std.proofs.Common.{List, ◌++◌, ℕ, subst, inl, inr, ⊎_elim}
 use Rattle.gx_pages.specs.Frees.{IsApart}
 use Rattle.gx_index.proofs.nulls.nulls_stay.Goals as goal
 
-pub returns : goal.returns
-returns g c old new nulls rows feet before free after rest h keeps apart =
+pub returns-clause-stays : goal.returns-clause-stays
+returns-clause-stays g c old new nulls rows feet before free after rest h keeps apart =
     ⊎_elim (λ none. inl none) (λ some.
     let l = some.held in
     inr (record {

@@ -1,4 +1,4 @@
-use Rattle.std.proofs.Common.{◌≡◌, List, [], ℕ, true, false, sym, subst, ◌∙◌, arith, true≢false}
+use Rattle.std.proofs.Common.{ℕ, sym, subst, ◌∙◌, arith, true≢false}
 use Rattle.gx_pages.proofs.Footprints.{cause_weaker}
 use Rattle.gx_posting_tree.specs.PostingTrees.{HoldsRows, without}
 use Rattle.gx_index.proofs.NullRows.{none_left, of_posting, posting_of}

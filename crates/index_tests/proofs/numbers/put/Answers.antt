@@ -1,7 +1,7 @@
 use Rattle.std.proofs.Common.{◌≡◌, true, refl, sym, subst}
 use Rattle.gx_value.specs.declared.types.ColumnType.TheVariants as column
 use Rattle.gx_value.specs.Classes.{takes}
-use Rattle.gx_index.specs.Named.{scalar_class}
+use Rattle.gx_candidates.specs.Laws.{scalar_class}
 use Rattle.index_tests.proofs.numbers.put.Goals as goal
 
 pub put-requires-2-clause-value : goal.put-requires-2-clause-value

@@ -1,10 +1,8 @@
-use Rattle.std.proofs.Common.{List, [], ℕ, ◌∙◌, arith}
+use Rattle.std.proofs.Common.{[], ◌∙◌, arith}
 use Rattle.std.proofs.lemmas.Result.{on_ok_weaker, IfErr-weaker}
-use Rattle.gx_pages.specs.Footprints.{KeepsPages}
 use Rattle.gx_pages.proofs.Footprints.{cause_weaker}
-use Rattle.gx_index.specs.Beside.{Beside}
-use Rattle.gx_index.specs.Indexed.{Field, valued, nulls_of}
-use Rattle.gx_index.proofs.IndexFacts.{Index, values_in, nulls_in, values_apart, nulls_lie, both_gone}
+use Rattle.gx_index.specs.Indexed.{valued, nulls_of}
+use Rattle.gx_index.proofs.IndexFacts.{values_in, nulls_in, values_apart, nulls_lie, both_gone}
 use Rattle.gx_index.proofs.NullRows.{never_broken}
 use Rattle.gx_index.proofs.indexed.Indexed.drop_all.Goals as goal
 

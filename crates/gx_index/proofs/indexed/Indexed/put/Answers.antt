@@ -1,4 +1,4 @@
-use Rattle.std.proofs.Common.{List, [], ◌∷◌, ◌++◌, ℕ, Some, None, sym, subst, ap}
+use Rattle.std.proofs.Common.{[], ◌∷◌, ◌++◌, ℕ, sym, subst, ap}
 use Rattle.std.specs.Prelude.{Option}
 use Rattle.std.specs.Option.{option_map}
 use Rattle.std.proofs.lemmas.Result.{on_ok_weaker}
@@ -17,7 +17,7 @@ returns-in-Some-clause-put g c =
     (subst (λ v. made c.args.self.now.nulls (option_map (λ w. datum_of w.now) v)) (sym c.in-Some.is) (put tells rows feet free h below))) c.put_value.ensures.put
 
 pub returns-in-Some-clause-heap : goal.returns-in-Some-clause-heap
-returns-in-Some-clause-heap g c tells rows feet free h below = c.put_value.ensures.heap tells rows feet free h
+returns-in-Some-clause-heap g c tells rows feet free h below = c.put_value.ensures.heap tells rows feet free h below
 
 pub returns-in-None-clause-put : goal.returns-in-None-clause-put
 returns-in-None-clause-put g c =

@@ -1,4 +1,4 @@
-use Rattle.std.proofs.Common.{List, [], ◌∷◌, ◌++◌, ℕ, Some, sym, subst}
+use Rattle.std.proofs.Common.{List, [], ◌∷◌, ◌++◌, Some, sym, subst}
 use Rattle.std.proofs.lemmas.Result.{on_ok_weaker}
 use Rattle.gx_value.specs.Values.{datum_of}
 use Rattle.gx_index.specs.Beside.{Beside}
@@ -20,7 +20,7 @@ returns-clause-put g c =
     values_changed g.P.Pages Holds h new next made.0 made.1
     (subst (λ (l : List Valued). Beside g.P.Pages (Holds l) new made.0 made.1) (sym (valued_with rows c.args.row value)) made.2)
     (nulls_with rows c.args.row value) made.3
-    (c.nulls_stay.ensures old new c.args.self.now.nulls (nulls_of rows) h.held.others h.held.values free made.0 made.1 h.held.null made.3 (nulls_apart g.P.Pages Holds h)))
+    (c.nulls_stay.ensures.stays old new c.args.self.now.nulls (nulls_of rows) h.held.others h.held.values free made.0 made.1 h.held.null made.3 (nulls_apart g.P.Pages Holds h)))
     c.put.ensures.put
 
 pub returns-clause-cause : goal.returns-clause-cause
@@ -29,5 +29,5 @@ returns-clause-cause g c =
     none tells (valued rows) h.held.values free (values_in g.P.Pages (g.M.Kept.holds c.args.self.now.kept) h) (below_valued rows c.args.row.number below)) c.put.ensures.cause
 
 pub returns-clause-heap : goal.returns-clause-heap
-returns-clause-heap g c tells rows feet free h =
-    c.put.ensures.heap tells (valued rows) h.held.values free (values_in g.P.Pages (g.M.Kept.holds c.args.self.now.kept) h)
+returns-clause-heap g c tells rows feet free h below =
+    c.put.ensures.heap tells (valued rows) h.held.values free (values_in g.P.Pages (g.M.Kept.holds c.args.self.now.kept) h) (below_valued rows c.args.row.number below)

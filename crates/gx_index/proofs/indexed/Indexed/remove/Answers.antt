@@ -1,4 +1,4 @@
-use Rattle.std.proofs.Common.{List, ℕ, not, ◌∙◌, arith}
+use Rattle.std.proofs.Common.{ℕ, not, ◌∙◌, arith}
 use Rattle.gx_pages.proofs.Footprints.{cause_weaker}
 use Rattle.gx_gist_tree.specs.OnPages.{is_in}
 use Rattle.gx_index.specs.Indexed.{valued, nulls_of}
@@ -15,7 +15,7 @@ returns-in-Ok-remove_nulls-clause-removed g c tells rows feet free h =
     let stays = λ (n : ℕ). not (is_in c.args.gone.now n) in
     let lost = c.in-Ok.ensures.removed tells (valued rows) h.held.values free (values_in g.P.Pages Holds h) in
     let made = half_changed g.P.Pages Holds h stays mid lost.0 lost.1 lost.2 lost.3
-    (c.nulls_stay.ensures old mid nulls (nulls_of rows) h.held.others h.held.values free lost.0 lost.1 h.held.null lost.3 (nulls_apart g.P.Pages Holds h)) in
+    (c.nulls_stay.ensures.stays old mid nulls (nulls_of rows) h.held.others h.held.values free lost.0 lost.1 h.held.null lost.3 (nulls_apart g.P.Pages Holds h)) in
     let i = made.2 in
     let new = c.remove_nulls.new.pages in
     let less = c.in-Ok-remove_nulls.ensures.removed tells (nulls_of (halfway stays rows)) i.held.others made.1 (nulls_in g.P.Pages Holds i) in
@@ -34,7 +34,7 @@ returns-in-Ok-remove_nulls-clause-heap g c tells rows feet free h =
     let stays = λ (n : ℕ). not (is_in c.args.gone.now n) in
     let lost = c.in-Ok.ensures.removed tells (valued rows) h.held.values free (values_in g.P.Pages Holds h) in
     let made = half_changed g.P.Pages Holds h stays mid lost.0 lost.1 lost.2 lost.3
-    (c.nulls_stay.ensures old mid nulls (nulls_of rows) h.held.others h.held.values free lost.0 lost.1 h.held.null lost.3 (nulls_apart g.P.Pages Holds h)) in
+    (c.nulls_stay.ensures.stays old mid nulls (nulls_of rows) h.held.others h.held.values free lost.0 lost.1 h.held.null lost.3 (nulls_apart g.P.Pages Holds h)) in
     let i = made.2 in
     c.remove_nulls.ensures.heap (never_broken c.remove_nulls.result _ _ _ _ _
     (λ at x y no. no tells (nulls_of (halfway stays rows)) i.held.others made.1 (nulls_in g.P.Pages Holds i)) c.remove_nulls.ensures.cause)
@@ -52,7 +52,7 @@ returns-in-Err-remove_nulls-clause-cause g c =
     let stays = λ (n : ℕ). not (is_in c.args.gone.now n) in
     let lost = c.in-Ok.ensures.removed tells (valued rows) h.held.values free (values_in g.P.Pages Holds h) in
     let made = half_changed g.P.Pages Holds h stays mid lost.0 lost.1 lost.2 lost.3
-    (c.nulls_stay.ensures old mid nulls (nulls_of rows) h.held.others h.held.values free lost.0 lost.1 h.held.null lost.3 (nulls_apart g.P.Pages Holds h)) in
+    (c.nulls_stay.ensures.stays old mid nulls (nulls_of rows) h.held.others h.held.values free lost.0 lost.1 h.held.null lost.3 (nulls_apart g.P.Pages Holds h)) in
     let i = made.2 in
     no tells (nulls_of (halfway stays rows)) i.held.others made.1 (nulls_in g.P.Pages Holds i))
     (λ n s. s) (λ m. m) c.in-Err-remove_nulls.ensures.cause
@@ -66,7 +66,7 @@ returns-in-Err-remove_nulls-clause-heap g c tells rows feet free h =
     let stays = λ (n : ℕ). not (is_in c.args.gone.now n) in
     let lost = c.in-Ok.ensures.removed tells (valued rows) h.held.values free (values_in g.P.Pages Holds h) in
     let made = half_changed g.P.Pages Holds h stays mid lost.0 lost.1 lost.2 lost.3
-    (c.nulls_stay.ensures old mid nulls (nulls_of rows) h.held.others h.held.values free lost.0 lost.1 h.held.null lost.3 (nulls_apart g.P.Pages Holds h)) in
+    (c.nulls_stay.ensures.stays old mid nulls (nulls_of rows) h.held.others h.held.values free lost.0 lost.1 h.held.null lost.3 (nulls_apart g.P.Pages Holds h)) in
     let i = made.2 in
     c.remove_nulls.ensures.heap (never_broken c.remove_nulls.result _ _ _ _ _
     (λ at x y no. no tells (nulls_of (halfway stays rows)) i.held.others made.1 (nulls_in g.P.Pages Holds i)) c.remove_nulls.ensures.cause)

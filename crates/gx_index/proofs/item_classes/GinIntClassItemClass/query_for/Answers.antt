@@ -1,0 +1,10 @@
+use Rattle.std.proofs.lemmas.Result.{IfOk-weaker}
+use Rattle.gx_index.proofs.Questions.{asks_same, numbers_test}
+use Rattle.gx_index.proofs.item_classes.GinIntClassItemClass.query_for.Goals as goal
+
+pub returns : goal.returns
+returns c =
+    IfOk-weaker c.numbers_query.result _ _ (λ made is. asks_same _ _ _ made (λ query known. record {
+      valid = λ question. known.valid (c.questions_are_valid.ensures.right _ _ question.kind _ _ question.asked);
+      test = numbers_test _ _ query known;
+    }) is) c.numbers_query.ensures

@@ -1,0 +1,11 @@
+use Rattle.std.proofs.lemmas.Result.{IfOk-weaker}
+use Rattle.gx_opr.specs.Operands.{right_of}
+use Rattle.gx_index.proofs.Questions.{asks_same, map_test}
+use Rattle.gx_index.proofs.key_classes.HstoreClassKeyClass.query_for.Goals as goal
+
+pub returns : goal.returns
+returns g c =
+    IfOk-weaker c.map_query.result _ _ (λ made is. asks_same _ _ _ made (λ query known. record {
+      valid = λ question. known.valid (c.questions_are_valid.ensures.right _ _ question.kind _ _ question.asked);
+      test = map_test _ c.args.op (right_of c.args.operand.now.part) query known;
+    }) is) c.map_query.ensures
