@@ -1,4 +1,4 @@
-//! Seeded values and queries of the five classes. Every fiftieth value has no items.
+//! Seeded values and queries of the five classes. Every forty-ninth value has no items.
 
 ghost use Rattle.std.specs.Prelude.{IfOk};
 ghost use Rattle.gx_intarr.specs.Arrays.{IsArray};
@@ -22,7 +22,7 @@ use std::alloc::Global;
 fn numbers_of(alloc: Global, number: u32) -> Result<IntArray, ValueError>
     ensures { IfOk result IsArray }
 {
-    if number % 50 == 0 {
+    if number % 49 == 0 {
         return array_of(alloc, "{}");
     }
     let (a, b, c) = (number % 97, number % 1009, number % 7);
@@ -36,7 +36,7 @@ fn numbers_of(alloc: Global, number: u32) -> Result<IntArray, ValueError>
 fn record_of(alloc: Global, number: u32) -> Result<Json, ValueError>
     ensures { IfOk result (λ d. IsDocument (data_of d)) }
 {
-    if number % 50 == 0 {
+    if number % 49 == 0 {
         return document_of(alloc, "[]");
     }
     let (a, b, c) = (number % 61, number % 13, number % 5);
@@ -83,7 +83,7 @@ impl Seeded for GinIntClass {
 
 impl Seeded for GinHstoreClass {
     fn value(&self, alloc: Global, number: u32) -> Result<Hstore, ValueError> {
-        if number % 50 == 0 {
+        if number % 49 == 0 {
             return maps::map_of(alloc, "");
         }
         let (a, b, c) = (number % 61, number % 13, number % 5);
